@@ -7,7 +7,7 @@ use Rattle.std.proofs.lemmas.Option.{slice_get-map, slice_get_past, slice_get_re
 use Rattle.term_model.specs.Flat.{Meaning}
 use Rattle.term_model.specs.PrimNames.{NameKey}
 use Rattle.term_model.specs.NameSet.{key_at}
-use Rattle.term_model.specs.Space.{Space}
+use Rattle.term_model.specs.Space.{Space, Keeps}
 use Rattle.term_model.specs.Symbol.{Symbol}
 use Rattle.core_lang.specs.declared.program.CorePattern.{CorePattern}
 use Rattle.core_lang.specs.Views.{pattern_of, patterns_in}
@@ -20,6 +20,8 @@ use Rattle.strat_code.specs.declared.instr.Instr.TheVariants as forms
 use Rattle.strat_steps.specs.State.{Frame}
 use Rattle.strat_steps.specs.References.{Places, RefRecord, RefState, ref_running}
 use Rattle.strat_steps.specs.ReferenceSteps.{Does, StepRef, performs, leaves_code, cannot_pay}
+use Rattle.strat_steps.specs.Marks.{Safe}
+use Rattle.strat_machine.specs.Opened.{AllOpened, StateOpened, StepOpened}
 use Rattle.strat_machine.specs.Actions.{IsAction, IsLoadedInstr, AreLoadedInstrs, IsLoadedProgram}
 use Rattle.strat_patterns.specs.Loaded.{AllKnown, IsLoaded, AreLoaded, loaded_of, all_loaded_of}
 use Rattle.strat_machine.specs.RecordStack.{records_of}
@@ -36,6 +38,7 @@ use Rattle.strat_machine.specs.declared.stacks.Position.{Position}
 use Rattle.strat_machine.specs.declared.stacks.Stacks.{Stacks}
 use Rattle.strat_machine.specs.declared.tables.LoadedTable.{LoadedTable}
 use Rattle.strat_patterns.proofs.LoadedLaws.{is_loaded_later, are_loaded_later}
+use Rattle.strat_machine.proofs.OpenedLaws.{IsPlain, does_opened, opened_kept}
 use Rattle.strat_machine.proofs.TableLaws.{tables_kept, taken}
 
 -- names stay known with their symbols, so what is loaded stays loaded
@@ -171,6 +174,39 @@ module _ {N : Type 0} (knows : N → Bool) (symbol_of : N → Symbol) (number_of
       AreLoadedTables knows symbol_of number_of ls ts → xs ≡ ls → cases_meant symbol_of xs j k ≡ cases_of ts j k
   cases_are ls xs ts j k h same = ap (λ ys. cases_meant symbol_of ys j k) same ∙ ap (drop k) (table_is ls ts j h)
 
+-- neither begins a traversal nor ends the code for a part
+abbrev pub IsPlainAction : {N : Type 0} → Action N → Type 0
+IsPlainAction (actions.Traverse kind a) = ⊥
+IsPlainAction actions.PartDone = ⊥
+IsPlainAction _ = Unit {0}
+
+plain_at : (ts : List (Vec Case Global)) {u v : Instr} → v ≡ u → IsPlain (instr_of ts u) → IsPlain (instr_of ts v)
+plain_at ts is h = subst (λ u. IsPlain (instr_of ts u)) (sym is) h
+
+plain_instr : {N : Type 0} (knows : N → Bool) (symbol_of : N → Symbol) (keys : List NameKey)
+    (ts : List (Vec Case Global)) (a : Action N) (v : Instr) → IsAction knows symbol_of keys a v → IsPlainAction a →
+    IsPlain (instr_of ts v)
+plain_instr knows symbol_of keys ts actions.Count v h plain = plain_at ts h.1 tt
+plain_instr knows symbol_of keys ts actions.GiveUp v h plain = plain_at ts h.1 tt
+plain_instr knows symbol_of keys ts (actions.Match p) v h plain = plain_at ts h.2 tt
+plain_instr knows symbol_of keys ts (actions.Build p) v h plain = plain_at ts h.2 tt
+plain_instr knows symbol_of keys ts (actions.Enter k) v h plain = plain_at ts h.1 tt
+plain_instr knows symbol_of keys ts actions.Leave v h plain = plain_at ts h tt
+plain_instr knows symbol_of keys ts (actions.Extend k) v h plain = plain_at ts h.1 tt
+plain_instr knows symbol_of keys ts (actions.Shrink k) v h plain = plain_at ts h tt
+plain_instr knows symbol_of keys ts (actions.Try a) v h plain = plain_at ts h.1 tt
+plain_instr knows symbol_of keys ts (actions.Commit a) v h plain = plain_at ts h.1 tt
+plain_instr knows symbol_of keys ts (actions.Select j k a) v h plain = plain_at ts h.1 tt
+plain_instr knows symbol_of keys ts (actions.Jump a) v h plain = plain_at ts h tt
+plain_instr knows symbol_of keys ts (actions.Traverse kind a) v h plain = absurd plain
+plain_instr knows symbol_of keys ts actions.PartDone v h plain = absurd plain
+plain_instr knows symbol_of keys ts (actions.CallDefinition c us ps) v h plain = plain_at ts h.3 tt
+plain_instr knows symbol_of keys ts (actions.CallClosure y) v h plain = plain_at ts h.1 tt
+plain_instr knows symbol_of keys ts actions.EndDefinition v h plain = plain_at ts h tt
+plain_instr knows symbol_of keys ts actions.EndArgument v h plain = plain_at ts h tt
+plain_instr knows symbol_of keys ts (actions.ApplyPrimitive at ps) v h plain = plain_at ts h.3 tt
+plain_instr knows symbol_of keys ts actions.Finish v h plain = plain_at ts h tt
+
 -- the instruction at an address
 pub none_at : (ts : List (Vec Case Global)) (instrs : List Instr) (i : ℕ) → length instrs ≤ i →
     slice_get (code_of ts instrs) i ≡ None
@@ -212,21 +248,41 @@ module _ {W R Y N : Type 0} (S : Space W R Y N) (M : Meaning)
       is_action a form = subst (λ b. IsAction (S.knows w) (S.symbol_of w) keys b instr_there.0) form is_loaded.action
 
       -- the budget does not suffice
-      pub cannot_step : m.left < x.nodes → StepRef S (code_of ts vs) M w (state_of Running p m) w (state_of Spent p m)
-      cannot_step low = let n = is_loaded.nodes ts in
-          cannot_pay (found_at ts vs p.address instr_there.0 instr_there.1) (omega (arith, n, low))
+      pub cannot_step : m.left < x.nodes →
+          StepOpened S (code_of ts vs) M w (state_of Running p m) w (state_of Spent p m)
+      cannot_step low =
+          let n = is_loaded.nodes ts in
+          record {
+            step = cannot_pay (found_at ts vs p.address instr_there.0 instr_there.1) (omega (arith, n, low));
+            opened = λ holds o. tt;
+          }
 
-      -- it is performed
-      pub steps_by : {w1 : W} {n : RefState R Y} (a : Action N) → x.action ≡ a → x.nodes ≤ m.left →
-          ((v : Instr) → IsAction (S.knows w) (S.symbol_of w) keys a v →
+      module _ {w1 : W} {n : RefState R Y} (a : Action N) (form : x.action ≡ a) (paid : x.nodes ≤ m.left)
+          (does : (v : Instr) → IsAction (S.knows w) (S.symbol_of w) keys a v →
           Does S M w (instr_of ts v)
           p.address p.frame p.term m.places.slots m.frames m.places.trail m.places.barrier (records_of m.records)
-          (m.left - x.nodes) w1 n) →
-          StepRef S (code_of ts vs) M w (state_of Running p m) w1 n
-      steps_by a form paid does =
-          let n = is_loaded.nodes ts in
-          performs (m.left - x.nodes) (found_at ts vs p.address instr_there.0 instr_there.1) (omega (arith, n, paid))
-          (does instr_there.0 (is_action a form))
+          (m.left - x.nodes) w1 n) where
+        step_is : StepRef S (code_of ts vs) M w (state_of Running p m) w1 n
+        step_is =
+            let n = is_loaded.nodes ts in
+            performs (m.left - x.nodes) (found_at ts vs p.address instr_there.0 instr_there.1) (omega (arith, n, paid))
+            (does instr_there.0 (is_action a form))
+
+        -- it is performed, and goes on with no traversal
+        pub steps_by : IsPlainAction a → StepOpened S (code_of ts vs) M w (state_of Running p m) w1 n
+        steps_by plain = record {
+          step = step_is;
+          opened = λ holds o. does_opened (does instr_there.0 (is_action a form))
+              (plain_instr (S.knows w) (S.symbol_of w) keys ts a instr_there.0 (is_action a form) plain) holds.1 o;
+        }
+
+        -- it is performed, and traversals that have their first portions stay so
+        pub steps_on : Keeps S w w1 → (AllOpened S w1 (records_of m.records) → StateOpened S w1 n) →
+            StepOpened S (code_of ts vs) M w (state_of Running p m) w1 n
+        steps_on keeps stays = record {
+          step = step_is;
+          opened = λ holds o. stays (opened_kept keeps holds.1 o);
+        }
 
 -- what an instruction that handles patterns is
 module _ {N : Type 0} {knows : N → Bool} {symbol_of : N → Symbol} (ts : List (Vec Case Global)) {v : Instr} where

@@ -189,3 +189,7 @@ module _ {W R Y N : Type 0} {S : Space W R Y N} {M : Meaning} {w w1 w2 : W} {t :
             λ all. let f = before.all all in omega arith;
       }
   charged_more {next = _} after q m1 u going x charged paid now before = absurd going
+
+-- the same at an equal address
+pub charges_at : {old new : List ℕ} {i j n : ℕ} → i ≡ j → Charges old i n new → Charges old j n new
+charges_at {old} {new} {n = n} same h = subst (λ k. Charges old k n new) same h

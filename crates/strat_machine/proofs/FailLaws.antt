@@ -9,10 +9,11 @@ use Rattle.strat_steps.specs.State.{Frame}
 use Rattle.strat_steps.specs.Binding.{undone, above, down_to}
 use Rattle.term_model.specs.Space.{Space, GoesBack, IsMark, Stands}
 use Rattle.strat_steps.specs.References.{Places, RefRecord, ref_all, ref_one, ref_some, RefState, ref_running, ref_failing, AllRefs}
-use Rattle.strat_steps.specs.ReferenceSteps.{IsNext, StepRef, fails_call, fails_one_last, fails_one_next, fails_some_none, fails_some_last, fails_some_next}
+use Rattle.strat_steps.specs.ReferenceSteps.{IsNext}
 use Rattle.strat_steps.specs.Marks.{Safe, Covered, one_covered, some_covered}
 use Rattle.strat_patterns.specs.PlaceStack.{PlaceStack}
 use Rattle.strat_machine.specs.CompactRecords.{HasNoCall}
+use Rattle.strat_machine.specs.Opened.{StepOpened}
 use Rattle.strat_machine.specs.RecordStack.{saved_of, records_in, records_of, with_record}
 use Rattle.strat_machine.specs.Traversing.{HasNone, TakesPart}
 use Rattle.strat_machine.specs.declared.records.Saved.{Saved}
@@ -20,6 +21,7 @@ use Rattle.strat_machine.specs.declared.records.Traversed.{Traversed}
 use Rattle.strat_machine.specs.declared.records.Record.{Record}
 use Rattle.strat_machine.specs.declared.records.Record.TheVariants as records
 use Rattle.strat_machine.specs.declared.records.Records.{Records}
+use Rattle.strat_machine.proofs.OpenedLaws.{call_failed, one_last_failed, one_next_failed, some_none_failed, some_last_failed, some_next_failed}
 
 take_none : {A : Type 0} (n : ℕ) → take {A = A} n [] ≡ []
 take_none zero = refl
@@ -125,11 +127,11 @@ pub same_running : {R Y : Type 0} {i p b d l : ℕ} {t : R} {e f : Places R} {F 
 same_running e F T b K = cc
 
 module _ {W R Y N : Type 0} {S : Space W R Y N} {code : Code} {M : Meaning} {w w1 : W} where
-  pub step_to : {m n n1 : RefState R Y} → StepRef S code M w m w1 n → n ≡ n1 → StepRef S code M w m w1 n1
-  step_to {m} x is = subst (λ n. StepRef S code M w m w1 n) is x
+  pub step_to : {m n n1 : RefState R Y} → StepOpened S code M w m w1 n → n ≡ n1 → StepOpened S code M w m w1 n1
+  step_to {m} x is = subst (λ n. StepOpened S code M w m w1 n) is x
 
-  pub step_from : {m m1 n : RefState R Y} → StepRef S code M w m w1 n → m ≡ m1 → StepRef S code M w m1 w1 n
-  step_from {n = n} x is = subst (λ m. StepRef S code M w m w1 n) is x
+  pub step_from : {m m1 n : RefState R Y} → StepOpened S code M w m w1 n → m ≡ m1 → StepOpened S code M w m1 w1 n
+  step_from {n = n} x is = subst (λ m. StepOpened S code M w m w1 n) is x
 
 module _ {W R Y N : Type 0} {S : Space W R Y N} {code : Code} {M : Meaning} {w w1 : W} {e : Places R}
     {F F1 : List Frame} {T : List ℕ} {b l q k h d : ℕ} {P : PlaceStack R} (mark : Y) (back : GoesBack S w mark w1)
@@ -138,14 +140,14 @@ module _ {W R Y N : Type 0} {S : Space W R Y N} {code : Code} {M : Meaning} {w w
     (v : Traversed R) (part : R) where
   pub one_ends : (cut : Records R Y) → HasNone S w1 v (suc (length (take v.done rs.done))) rs.left np.left →
       cut ≡ record { records = np.records; done = drop v.done np.done; left = drop v.left np.left } →
-      StepRef S code M w (ref_failing e F T b
+      StepOpened S code M w (ref_failing e F T b
       (with_record (records.One v part (record { frame = q; frames = k; height = h; barrier = d }) mark) rs) l)
       w1 (ref_failing P.slots F1 P.trail P.barrier (records_of cut) l)
   one_ends cut found_none is =
       let none = found_none.none in let same = found_none.kept in
       let K0 = records_in rs.records (drop v.done rs.done) (drop v.left rs.left) in
       step_from
-      (step_to (fails_one_last back found_none.no_more)
+      (step_to (one_last_failed back found_none.no_more)
       (same_failing (ap (λ p. p.slots) (sym restored)) (sym fewer) (ap (λ p. p.trail) (sym restored))
       (ap (λ p. p.barrier) (sym restored)) (cut_records rs np kept cut v.done v.left same is)))
       (ap (λ us. ref_failing e F T b
@@ -155,14 +157,14 @@ module _ {W R Y N : Type 0} {S : Space W R Y N} {code : Code} {M : Meaning} {w w
   pub some_ends : (cut : Records R Y) (found : Bool) → found ≡ false →
       HasNone S w1 v (suc (length (take v.done rs.done))) rs.left np.left →
       cut ≡ record { records = np.records; done = drop v.done np.done; left = drop v.left np.left } →
-      StepRef S code M w (ref_failing e F T b
+      StepOpened S code M w (ref_failing e F T b
       (with_record (records.Some v part found (record { frame = q; frames = k; height = h; barrier = d }) mark) rs)
       l) w1 (ref_failing P.slots F1 P.trail P.barrier (records_of cut) l)
   some_ends cut found not_found found_none is =
       let none = found_none.none in let same = found_none.kept in
       let K0 = records_in rs.records (drop v.done rs.done) (drop v.left rs.left) in
       step_from
-      (step_to (fails_some_none back found_none.no_more)
+      (step_to (some_none_failed back found_none.no_more)
       (same_failing (ap (λ p. p.slots) (sym restored)) (sym fewer) (ap (λ p. p.trail) (sym restored))
       (ap (λ p. p.barrier) (sym restored)) (cut_records rs np kept cut v.done v.left same is)))
       (ap (λ us. ref_failing e F T b
@@ -177,7 +179,7 @@ module _ {W R Y N : Type 0} {S : Space W R Y N} {code : Code} {M : Meaning} {w w
       found ≡ true → HasNone S w1 v (suc (length (take v.done rs.done))) rs.left np.left → E ≡ drop v.left np.left →
       ending ≡ record v { left = 0 } →
       stack ≡ records.All ending ∷ np.records → address ≡ v.next_address - 1 →
-      StepRef S code M w (ref_failing e F T b
+      StepOpened S code M w (ref_failing e F T b
       (with_record (records.Some v part found (record { frame = q; frames = k; height = h; barrier = d }) mark) rs)
       l) w1
       (ref_running address q part P.slots F1 P.trail P.barrier (records_in stack np.done E) l)
@@ -197,7 +199,7 @@ module _ {W R Y N : Type 0} {S : Space W R Y N} {code : Code} {M : Meaning} {w w
       ap (λ r. records_in r np.done E) (sym put)))))
       in
       step_from
-      (step_to (fails_some_last back found_none.no_more)
+      (step_to (some_last_failed back found_none.no_more)
       (same_running (ap (λ p. p.slots) (sym restored)) (sym fewer) (ap (λ p. p.trail) (sym restored))
       (ap (λ p. p.barrier) (sym restored)) all
       ∙ ap (λ a. ref_running a q part P.slots F1 P.trail P.barrier (records_in stack np.done E) l) (sym at)))
@@ -212,7 +214,7 @@ module _ {W R Y N : Type 0} {S : Space W R Y N} {code : Code} {M : Meaning} {w w
       (other : others ≡ record v { done = suc v.done; left = j }) (put : D ≡ part ∷ np.done)
       (taken : TakesPart S w1 v (suc (length (take v.done rs.done))) rs.left next j np.left) (g : Saved) (mark2 : Y)
       (saves : saved_of g ≡ state.saved q (length F1) (length P.trail) P.barrier) (marks : IsMark S w1 mark2) where
-    pub one_goes_on : StepRef S code M w
+    pub one_goes_on : StepOpened S code M w
         (ref_failing e F T b (with_record
         (records.One v part (record { frame = q; frames = k; height = h; barrier = d }) mark) rs) l) w1
         (ref_running others.body q next P.slots F1 P.trail (length P.slots)
@@ -220,7 +222,7 @@ module _ {W R Y N : Type 0} {S : Space W R Y N} {code : Code} {M : Meaning} {w w
         l)
     one_goes_on =
         let slots = ap (λ p. p.slots) (sym restored) in
-        step_to (fails_one_next back taken.next marks)
+        step_to (one_next_failed back taken.next marks taken.enough)
         (same_running slots (sym fewer) (ap (λ p. p.trail) (sym restored)) (ap length slots)
         (sym (one_next rs np kept v others part next j D other put taken.after g mark2
         (state.saved q (length (take k F)) (length (down_to h T)) d) (saves_same q d restored fewer saves)))
@@ -229,7 +231,7 @@ module _ {W R Y N : Type 0} {S : Space W R Y N} {code : Code} {M : Meaning} {w w
         l) (ap (λ u. u.body) (sym other)))
 
     pub some_goes_on : (found : Bool) →
-        StepRef S code M w (ref_failing e F T b
+        StepOpened S code M w (ref_failing e F T b
         (with_record (records.Some v part found (record { frame = q; frames = k; height = h; barrier = d }) mark) rs) l)
         w1
         (ref_running others.body q next P.slots F1 P.trail (length P.slots)
@@ -237,7 +239,7 @@ module _ {W R Y N : Type 0} {S : Space W R Y N} {code : Code} {M : Meaning} {w w
         (record { records = np.records; done = D; left = np.left })) l)
     some_goes_on found =
         let slots = ap (λ p. p.slots) (sym restored) in
-        step_to (fails_some_next back taken.next marks)
+        step_to (some_next_failed back taken.next marks taken.enough)
         (same_running slots (sym fewer) (ap (λ p. p.trail) (sym restored)) (ap length slots)
         (sym (some_next rs np kept v others part next j D other put taken.after found g mark2
         (state.saved q (length (take k F)) (length (down_to h T)) d) (saves_same q d restored fewer saves)))
@@ -253,8 +255,8 @@ module _ {W R Y N : Type 0} {S : Space W R Y N} {w : W} {e : Places R} {T : List
       is (subst (λ rs. Safe S w e T b (records_in rs D E)) popped safe)
 
   pub step_at : {code : Code} {M : Meaning} {w1 : W} {F : List Frame} {l : ℕ} {n : RefState R Y} →
-      StepRef S code M w (ref_failing e F T b (records_in (r ∷ new) D E) l) w1 n → old ≡ v ∷ new → v ≡ r →
-      StepRef S code M w (ref_failing e F T b (records_in old D E) l) w1 n
+      StepOpened S code M w (ref_failing e F T b (records_in (r ∷ new) D E) l) w1 n → old ≡ v ∷ new → v ≡ r →
+      StepOpened S code M w (ref_failing e F T b (records_in old D E) l) w1 n
   step_at {F = F} {l} x popped is =
       step_from x (ap (λ y. ref_failing e F T b (records_in (y ∷ new) D E) l) (sym is) ∙
       ap (λ rs. ref_failing e F T b (records_in rs D E) l) (sym popped))
@@ -284,7 +286,7 @@ module _ {W R Y N : Type 0} {S : Space W R Y N} {w w1 : W} {e : Places R} {T : L
 pub fails_popped : {W R Y N : Type 0} {S : Space W R Y N} {code : Code} {M : Meaning} {w : W} {e : Places R}
     {F : List Frame} {T : List ℕ} {b l : ℕ} (L K : List (Record R Y)) (D E : List R) (o : Option (ℕ × ℕ)) →
     MatchOption o ((K ≡ L) × HasNoCall L) (λ c. L ≡ records.Call c.0 c.1 ∷ K) → (HasNoCall L → ⊥) →
-    StepRef S code M w (ref_failing e F T b (records_in L D E) l) w (ref_failing e F T b (records_in K D E) l)
+    StepOpened S code M w (ref_failing e F T b (records_in L D E) l) w (ref_failing e F T b (records_in K D E) l)
 fails_popped L K D E None h call = absurd (call h.1)
 fails_popped {e = e} {F} {T} {b} {l} L K D E (Some c) h call =
-    step_from fails_call (ap (λ rs. ref_failing e F T b (records_in rs D E) l) (sym h))
+    step_from call_failed (ap (λ rs. ref_failing e F T b (records_in rs D E) l) (sym h))

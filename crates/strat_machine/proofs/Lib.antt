@@ -5,6 +5,7 @@ pub mod OutcomeLaws
 pub mod MachineLaws
 pub mod StackLaws
 pub mod StepLaws
+pub mod OpenedLaws
 pub mod FailLaws
 pub mod PortionLaws
 pub mod TraversalLaws

@@ -2,7 +2,7 @@
 use Rattle.std.proofs.Common.{◌≡◌, ◌≤◌, ℕ, suc, ◌+◌, min, List, [], ◌∷◌, ◌++◌, length, take, drop, map, reverse, append_assoc, refl, sym, ◌∙◌, ap, subst, arith}
 use Rattle.std.specs.Prelude.{Bool, true, false}
 use Rattle.std.specs.Option.{option_map}
-use Rattle.std.proofs.Math.Seq.{take-append_seam, drop-append_seam, take-append-add, drop-append-add}
+use Rattle.std.proofs.Math.Seq.{take-append-add, drop-append-add}
 use Rattle.std.proofs.lemmas.List.{reverse-append, reverse-reverse, length-reverse, length-take}
 use Rattle.term_model.specs.Term.{Tree, end, more, list_of, Fits}
 use Rattle.term_model.specs.TermParts.{parts_of}
@@ -11,20 +11,26 @@ use Rattle.term_model.proofs.SpaceLemmas.{whole}
 use Rattle.core_lang.specs.Environment.{Bindings}
 use Rattle.term_model.specs.Flat.{Meaning}
 use Rattle.core_lang.specs.Ending.{ok, oversize, rebuilt}
-use Rattle.strat_code.specs.Code.{Traversal, traverse, part_done, all_parts, one_part, some_parts}
+use Rattle.strat_code.specs.CodeOf.{traversal_of}
+use Rattle.strat_code.specs.declared.instr.Traversal as kinds
+use Rattle.strat_code.specs.declared.instr.Traversal.TheVariants as forms
+use Rattle.strat_code.specs.Code.{Instr, Traversal, traverse, part_done, all_parts, one_part, some_parts}
 use Rattle.strat_steps.specs.State as state
 use Rattle.strat_steps.specs.State.{Frame, stuck}
 use Rattle.strat_steps.specs.Binding.{trimmed}
 use Rattle.strat_steps.specs.Step.{in_order}
-use Rattle.term_model.specs.Space.{Space, Stands}
+use Rattle.term_model.specs.Space.{Space, IsMark, Stands}
 use Rattle.strat_steps.specs.References.{Places, RefRecord, RefState, ref_one, ref_some, ref_running, ref_failing, ref_stopped, record_tree, trees, trees_left, AllRefs}
 use Rattle.strat_steps.specs.ReferenceSteps.{HasNoMore, Does, begins_all, begins_one, begins_some, part_of_one, part_of_one_oversize, part_of_some, sticks, OnAll, all_whole, OnOne, one_none, OnSome, some_none}
 use Rattle.strat_steps.specs.Marks.{Safe}
 use Rattle.strat_patterns.specs.PlaceStack.{PlaceStack}
-use Rattle.strat_machine.specs.RecordStack.{records_in, records_of}
-use Rattle.strat_machine.specs.Traversing.{RebuildsTo, rebuilds, rebuilds_none, OpensParts, HasTried}
+use Rattle.strat_machine.specs.Opened.{AllOpened}
+use Rattle.strat_machine.specs.RecordStack.{saved_of, records_in, records_of, with_record}
+use Rattle.strat_machine.specs.Traversing.{RebuildsTo, rebuilds, rebuilds_none, HasTried, StaysOpened, TakesPortion}
 use Rattle.strat_steps.specs.Counted.{AllCounted}
 use Rattle.strat_machine.specs.declared.stacks.Stacks.{Stacks}
+use Rattle.strat_machine.specs.declared.stacks.Position.{Position}
+use Rattle.strat_machine.specs.declared.stacks.Next.{Next}
 use Rattle.strat_machine.specs.declared.records.Saved.{Saved}
 use Rattle.strat_machine.specs.declared.records.Traversed.{Traversed}
 use Rattle.strat_machine.specs.declared.records.Record.{Record}
@@ -32,100 +38,194 @@ use Rattle.strat_machine.specs.declared.records.Record.TheVariants as records
 use Rattle.strat_machine.specs.declared.records.Records.{Records}
 use Rattle.strat_machine.proofs.StepLaws.{does_to}
 use Rattle.strat_machine.proofs.PortionLaws.{left_long}
-use Rattle.strat_machine.proofs.TraversalLaws.{over, in_order_are, rebuilt_fits}
+use Rattle.strat_machine.proofs.TraversalLaws.{over, in_order_are, rebuilt_fits, all_goes, one_goes, some_goes, all_opened, one_opened, some_opened}
 use Rattle.strat_patterns.proofs.ReferenceLists.{refs_append, refs_reverse}
 
--- the parts are open
-opened : {W R Y N : Type 0} {S : Space W R Y N} {w : W} {t : R} (n : ℕ) (rs new : Records R Y)
-    (o : OpensParts S w t n rs new) (P : List (RefRecord R Y) → List R → List R → Type 0) →
-    P (records_in new.records (drop 0 new.done) (drop n new.left)) (take 0 new.done) (take n new.left) →
-    P (records_of rs) [] o.opened
-opened n rs new o P x =
-    let x1 : P (records_in rs.records rs.done (drop n (o.opened ++ rs.left))) [] (take n (o.opened ++ rs.left)) =
-    subst (λ y. P (records_in y.records (drop 0 y.done) (drop n y.left)) (take 0 y.done) (take n y.left)) o.after x in
-    let x2 : P (records_in rs.records rs.done (drop (length o.opened) (o.opened ++ rs.left)))
-    [] (take (length o.opened) (o.opened ++ rs.left)) =
-    subst (λ j. P (records_in rs.records rs.done (drop j (o.opened ++ rs.left))) [] (take j (o.opened ++ rs.left)))
-    o.count x1 in
-    let x3 : P (records_in rs.records rs.done rs.left) [] (take (length o.opened) (o.opened ++ rs.left)) =
-    subst (λ E. P (records_in rs.records rs.done E) [] (take (length o.opened) (o.opened ++ rs.left)))
-    (drop-append_seam o.opened rs.left) x2 in
-    subst (λ us. P (records_in rs.records rs.done rs.left) [] us) (take-append_seam o.opened rs.left) x3
+-- a term without parts is rebuilt
+rebuilt_leaf : {W R Y N : Type 0} (S : Space W R Y N) (w : W) (t : R) → HasNoMore S w t 0 → Fits (S.term_of w t) →
+    (bound : Bindings) → rebuilt (S.term_of w t) (ok end bound) ≡ ok (S.term_of w t) bound
+rebuilt_leaf S w t no_more fit bound =
+    let same : S.term_of w t ≡ over (S.term_of w t) [] 0 = sym (whole (S.term_of w t)) in
+    ap (λ us. rebuilt (S.term_of w t) (ok us bound)) (sym no_more) ∙
+    rebuilt_fits (S.term_of w) t [] bound (S.term_of w t) same (subst Fits same fit)
 
+-- a traversal begins, with no reference to a part of the term yet
 module _ {W R Y N : Type 0} {S : Space W R Y N} {M : Meaning} {w : W} {i here b l k next : ℕ} {t : R} {e : Places R}
-    {F : List Frame} {T : List ℕ} {st : RefState R Y} {kind : Traversal} (body n : ℕ) (rs new : Records R Y)
-    (o : OpensParts S w t n rs new) (at : body ≡ suc i) where
-  pub all_begins : {w1 : W} → kind ≡ all_parts →
-      OnAll S w body next here t e F T b (records_in new.records (drop 0 new.done) (drop n new.left))
-      l (take 0 new.done) (take n new.left) w1 st →
-      Does S M w (traverse k kind next) i here t e F T b (records_of rs) l w1 st
-  all_begins {w1} is x =
-      subst (λ j. Does S M w (traverse k j next) i here t e F T b (records_of rs) l w1 st) (sym is)
-      (begins_all o.are
-      o.standing (subst (λ a. OnAll S w a next here t e F T b (records_of rs) l [] o.opened w1 st)
-      at (opened n rs new o (λ K done us. OnAll S w body next here t e F T b K l done us w1 st) x)))
+    {F : List Frame} {T : List ℕ} {K : List (RefRecord R Y)} {kind : Traversal} where
+  module _ {st : RefState R Y} (body : ℕ) (at : body ≡ suc i) where
+    pub all_begins : {w1 : W} → kind ≡ all_parts → OnAll S w body next here t e F T b K l [] [] w1 st →
+        Does S M w (traverse k kind next) i here t e F T b K l w1 st
+    all_begins {w1} is x =
+        subst (λ j. Does S M w (traverse k j next) i here t e F T b K l w1 st) (sym is)
+        (begins_all refl tt (subst (λ a. OnAll S w a next here t e F T b K l [] [] w1 st) at x))
 
-  pub one_begins : kind ≡ one_part →
-      OnOne S w body next here t e F T b (records_in new.records (drop 0 new.done) (drop n new.left))
-      l (take 0 new.done) (take n new.left) st →
-      Does S M w (traverse k kind next) i here t e F T b (records_of rs) l w st
-  one_begins is x =
-      subst (λ j. Does S M w (traverse k j next) i here t e F T b (records_of rs) l w st) (sym is)
-      (begins_one o.are
-      o.standing (subst (λ a. OnOne S w a next here t e F T b (records_of rs) l [] o.opened st)
-      at (opened n rs new o (λ K done us. OnOne S w body next here t e F T b K l done us st) x)))
+    pub one_begins : kind ≡ one_part → OnOne S w body next here t e F T b K l [] [] st →
+        Does S M w (traverse k kind next) i here t e F T b K l w st
+    one_begins is x =
+        subst (λ j. Does S M w (traverse k j next) i here t e F T b K l w st) (sym is)
+        (begins_one refl tt (subst (λ a. OnOne S w a next here t e F T b K l [] [] st) at x))
 
-  pub some_begins : {w1 : W} → kind ≡ some_parts →
-      OnSome S w body next here t e F T b (records_in new.records (drop 0 new.done) (drop n new.left))
-      l (take 0 new.done) false (take n new.left) w1 st →
-      Does S M w (traverse k kind next) i here t e F T b (records_of rs) l w1 st
-  some_begins {w1} is x =
-      subst (λ j. Does S M w (traverse k j next) i here t e F T b (records_of rs) l w1 st) (sym is)
-      (begins_some o.are
-      o.standing (subst (λ a. OnSome S w a next here t e F T b (records_of rs) l [] false o.opened w1 st)
-      at (opened n rs new o (λ K done us. OnSome S w body next here t e F T b K l done false us w1 st) x)))
+    pub some_begins : {w1 : W} → kind ≡ some_parts → OnSome S w body next here t e F T b K l [] false [] w1 st →
+        Does S M w (traverse k kind next) i here t e F T b K l w1 st
+    some_begins {w1} is x =
+        subst (λ j. Does S M w (traverse k j next) i here t e F T b K l w1 st) (sym is)
+        (begins_some refl tt (subst (λ a. OnSome S w a next here t e F T b K l [] false [] w1 st) at x))
 
--- a term without parts is as it was
-module _ {W R Y N : Type 0} {S : Space W R Y N} {w : W} {t : R} (n : ℕ) (rs new : Records R Y)
-    (o : OpensParts S w t n rs new) (none : n ≡ 0) where
-  no_parts : OpensParts S w t 0 rs new
-  no_parts = subst (λ m. OpensParts S w t m rs new) none o
-
-  no_more : HasNoMore S w t 0
-  no_more = o.none none
-
-  rebuilt_leaf : Fits (S.term_of w t) → (bound : Bindings) →
-      rebuilt (S.term_of w t) (ok end bound) ≡ ok (S.term_of w t) bound
-  rebuilt_leaf fit bound =
-      let same : S.term_of w t ≡ over (S.term_of w t) [] 0 = sym (whole (S.term_of w t)) in
-      ap (λ us. rebuilt (S.term_of w t) (ok us bound)) (sym no_more) ∙
-      rebuilt_fits (S.term_of w) t [] bound (S.term_of w t) same (subst Fits same fit)
-
-  module _ {M : Meaning} {i here b l k next : ℕ} {e : Places R} {F : List Frame} {T : List ℕ} {kind : Traversal} where
+  -- a term without parts is as it was
+  module _ (no_more : HasNoMore S w t 0) where
     pub all_of_leaf : kind ≡ all_parts → Stands S w t → Fits (S.term_of w t) →
-        Does S M w (traverse k kind next) i here t e F T b (records_of rs)
-        l w (ref_running next here t e F T b (records_of new) l)
+        Does S M w (traverse k kind next) i here t e F T b K l w (ref_running next here t e F T b K l)
     all_of_leaf is stands fit =
-        all_begins (suc i) 0 rs new no_parts refl is
-        (all_whole no_more (keeps_same S w) stands (rebuilt_leaf fit (map (option_map (S.term_of w)) e)))
+        all_begins (suc i) refl is
+        (all_whole no_more (keeps_same S w) stands (rebuilt_leaf S w t no_more fit (map (option_map (S.term_of w)) e)))
 
     pub one_of_leaf : kind ≡ one_part →
-        Does S M w (traverse k kind next) i here t e F T b (records_of rs) l w (ref_failing e F T b (records_of new) l)
-    one_of_leaf is = one_begins (suc i) 0 rs new no_parts refl is (one_none no_more)
+        Does S M w (traverse k kind next) i here t e F T b K l w (ref_failing e F T b K l)
+    one_of_leaf is = one_begins (suc i) refl is (one_none no_more)
 
     pub some_of_leaf : kind ≡ some_parts →
-        Does S M w (traverse k kind next) i here t e F T b (records_of rs) l w (ref_failing e F T b (records_of new) l)
-    some_of_leaf is = some_begins (suc i) 0 rs new no_parts refl is (some_none no_more)
+        Does S M w (traverse k kind next) i here t e F T b K l w (ref_failing e F T b K l)
+    some_of_leaf is = some_begins (suc i) refl is (some_none no_more)
+
+-- nothing is taken
+pub untouched : {R Y : Type 0} (rs np : Records R Y) → np ≡ record rs { left = np.left } → np.left ≡ rs.left → np ≡ rs
+untouched rs np kept same = kept ∙ ap (λ l. record rs { left = l }) same
+
+-- a traversal of a term without parts
+module _ {W R Y N : Type 0} {S : Space W R Y N} {M : Meaning} {w : W} {i here b l k next : ℕ} {t : R}
+    {e : Places R} {F : List Frame} {T : List ℕ} (rs np : Records R Y) (is : np ≡ rs) (no_more : HasNoMore S w t 0)
+    (kind : kinds.Traversal) where
+  pub leaf_stays : kind ≡ forms.All → Stands S w t → Fits (S.term_of w t) →
+      Does S M w (traverse k (traversal_of kind) next) i here t e F T b (records_of rs) l w
+      (ref_running next here t e F T b (records_of np) l)
+  leaf_stays form stands fit =
+      subst (λ x. Does S M w (traverse k (traversal_of kind) next) i here t e F T b (records_of rs) l w
+      (ref_running next here t e F T b (records_of x) l)) (sym is)
+      (all_of_leaf no_more (ap traversal_of form) stands fit)
+
+  other_fails : (form : kinds.Traversal) → (form ≡ forms.All → ⊥) →
+      Does S M w (traverse k (traversal_of form) next) i here t e F T b (records_of rs) l w
+      (ref_failing e F T b (records_of rs) l)
+  other_fails forms.All other = absurd (other refl)
+  other_fails forms.One other = one_of_leaf no_more refl
+  other_fails forms.Some other = some_of_leaf no_more refl
+
+  pub leaf_fails : (kind ≡ forms.All → ⊥) →
+      Does S M w (traverse k (traversal_of kind) next) i here t e F T b (records_of rs) l w
+      (ref_failing e F T b (records_of np) l)
+  leaf_fails other =
+      subst (λ x. Does S M w (traverse k (traversal_of kind) next) i here t e F T b (records_of rs) l w
+      (ref_failing e F T b (records_of x) l)) (sym is) (other_fails kind other)
+
+-- the records are the same
+pub opened_same : {W R Y N : Type 0} (S : Space W R Y N) (w : W) {rs np : Records R Y} → np ≡ rs →
+    AllOpened S w (records_of rs) → AllOpened S w (records_of np)
+opened_same S w is o = subst (λ x. AllOpened S w (records_of x)) (sym is) o
+
+-- without those that are left of the first portion, the records are as before
+module _ {R Y : Type 0} (rs np : Records R Y) (left : ℕ) (kept : np ≡ record rs { left = np.left })
+    (after : rs.left ≡ drop left np.left) where
+  records_before : record np { left = drop left np.left } ≡ rs
+  records_before =
+      ap (λ (x : Records R Y). record x { left = drop left np.left }) kept ∙
+      ap (λ l. record rs { left = l }) (sym after)
+
+  pub begun_performs : {W N : Type 0} {S : Space W R Y N} {M : Meaning} {w w1 : W} {v : Instr} {i here l b : ℕ} {t : R}
+      {e : Places R} {F : List Frame} {T : List ℕ} {n : RefState R Y} →
+      Does S M w v i here t e F T b (records_of (record np { left = drop left np.left })) l w1 n →
+      Does S M w v i here t e F T b (records_of rs) l w1 n
+  begun_performs {S = S} {M} {w} {w1} {v} {i} {here} {l} {b} {t} {e} {F} {T} {n} x =
+      subst (λ y. Does S M w v i here t e F T b (records_of y) l w1 n) records_before x
+
+  pub begun_stays : {W N : Type 0} {S : Space W R Y N} {w : W} {next : Next} {p : Position R} {m : Stacks R Y} →
+      StaysOpened S (records_of (record np { left = drop left np.left })) w next p m →
+      StaysOpened S (records_of rs) w next p m
+  begun_stays {S = S} {w} {next} {p} {m} x = subst (λ y. StaysOpened S (records_of y) w next p m) records_before x
+
+-- the first part of a traversal is taken
+module _ {W R Y N : Type 0} {S : Space W R Y N} {w : W} (rs np : Records R Y) (kept : np ≡ record rs { left = np.left })
+    (body next left : ℕ) (whole t part : R) (same : whole ≡ t) (taken : TakesPortion S w t 0 rs.left part left np.left)
+  where
+    begun : TakesPortion S w whole 0 rs.left part left np.left
+    begun = subst (λ u. TakesPortion S w u 0 rs.left part left np.left) (sym same) taken
+
+    module _ {M : Meaning} {i here b l k : ℕ} {e : Places R} {F : List Frame} {T : List ℕ} {kind : Traversal}
+        (at : body ≡ suc i) where
+      pub all_first : kind ≡ all_parts → (stack : List (Record R Y)) →
+          stack ≡ records.All (record { body = body; next_address = next; whole = whole; done = 0; left = left }) ∷
+          np.records →
+          Does S M w (traverse k kind next) i here t e F T b (records_of rs) l w
+          (ref_running body here part e F T b (records_in stack np.done np.left) l)
+      all_first is stack put =
+          let n = ref_running body here part e F T b (records_in stack np.done np.left) l in
+          all_begins body at is (subst (λ u. OnAll S w body next here u e F T b (records_of rs) l [] [] w n) same
+          (all_goes rs np kept (record { body = body; next_address = next; whole = whole; done = 0; left = 0 })
+          (record { body = body; next_address = next; whole = whole; done = 0; left = left }) part left refl begun.after
+          here e F T b l begun.next stack put))
+
+      module _ (g : Saved) (m : Y) (n : RefState R Y)
+          (saves : saved_of g ≡ state.saved here (length F) (length T) b) (marks : IsMark S w m) where
+        pub one_first : kind ≡ one_part → n ≡ ref_running body here part e F T (length e)
+            (with_record (records.One
+            (record { body = body; next_address = next; whole = whole; done = 0; left = left }) part g m) np) l →
+            Does S M w (traverse k kind next) i here t e F T b (records_of rs) l w n
+        one_first is leads =
+            one_begins body at is (subst (λ u. OnOne S w body next here u e F T b (records_of rs) l [] [] n) same
+            (one_goes rs np kept (record { body = body; next_address = next; whole = whole; done = 0; left = 0 })
+            (record { body = body; next_address = next; whole = whole; done = 0; left = left }) part left refl
+            begun.after here e F T b l begun.next g m n saves marks leads))
+
+        pub some_first : kind ≡ some_parts → n ≡ ref_running body here part e F T (length e)
+            (with_record (records.Some
+            (record { body = body; next_address = next; whole = whole; done = 0; left = left }) part false g m) np) l →
+            Does S M w (traverse k kind next) i here t e F T b (records_of rs) l w n
+        some_first is leads =
+            some_begins body at is
+            (subst (λ u. OnSome S w body next here u e F T b (records_of rs) l [] false [] w n) same
+            (some_goes rs np kept (record { body = body; next_address = next; whole = whole; done = 0; left = 0 })
+            (record { body = body; next_address = next; whole = whole; done = 0; left = left }) part left refl
+            begun.after here e F T b l begun.next false g m n saves marks leads))
+
+    module _ (o : AllOpened S w (records_of rs)) where
+      pub all_first_opened : (stack : List (Record R Y)) →
+          stack ≡ records.All (record { body = body; next_address = next; whole = whole; done = 0; left = left }) ∷
+          np.records → AllOpened S w (records_in stack np.done np.left)
+      all_first_opened stack put =
+          all_opened rs np kept (record { body = body; next_address = next; whole = whole; done = 0; left = 0 })
+          (record { body = body; next_address = next; whole = whole; done = 0; left = left }) part left refl begun.after
+          S w begun.enough o stack put
+
+      pub one_first_opened : (g : Saved) (m : Y) → AllOpened S w (with_record (records.One
+          (record { body = body; next_address = next; whole = whole; done = 0; left = left }) part g m) np)
+      one_first_opened g m =
+          one_opened rs np kept (record { body = body; next_address = next; whole = whole; done = 0; left = 0 })
+          (record { body = body; next_address = next; whole = whole; done = 0; left = left }) part left refl begun.after
+          S w begun.enough o g m
+
+      pub some_first_opened : (g : Saved) (m : Y) → AllOpened S w (with_record (records.Some
+          (record { body = body; next_address = next; whole = whole; done = 0; left = left }) part false g m) np)
+      some_first_opened g m =
+          some_opened rs np kept (record { body = body; next_address = next; whole = whole; done = 0; left = 0 })
+          (record { body = body; next_address = next; whole = whole; done = 0; left = left }) part left refl begun.after
+          S w begun.enough o false g m
 
 list_of_trees : {R : Type 0} (f : R → Tree) (rs : List R) → length (list_of (trees f rs)) ≡ length rs
 list_of_trees f [] = refl
 list_of_trees f (r ∷ rs) = ap suc (list_of_trees f rs)
 
+-- the newest record is this one
+pub opened_now : {W R Y N : Type 0} (S : Space W R Y N) (w : W) {old new : List (Record R Y)} {r : Record R Y}
+    (D E : List R) → AllOpened S w (records_in old D E) → old ≡ r ∷ new → (x : Record R Y) → r ≡ x →
+    AllOpened S w (records_in (x ∷ new) D E)
+opened_now S w {new = new} D E o popped x is = subst (λ y. AllOpened S w (records_in (y ∷ new) D E))
+    is (subst (λ rs. AllOpened S w (records_in rs D E)) popped o)
+
 -- what holds of the newest record, which is taken off
 module _ {W R Y N : Type 0} {S : Space W R Y N} {w : W} {e : Places R} {T : List ℕ} {b : ℕ}
     {old new : List (Record R Y)} {r : Record R Y} (D E : List R)
     (safe : Safe S w e T b (records_in old D E))
-    (counted : AllCounted (map (record_tree (S.term_of w)) (records_in old D E))) (popped : old ≡ r ∷ new) where
+    (counted : AllCounted (map (record_tree (S.term_of w)) (records_in old D E)))
+    (o : AllOpened S w (records_in old D E)) (popped : old ≡ r ∷ new) where
   safe_now : (x : Record R Y) → r ≡ x → Safe S w e T b (records_in (x ∷ new) D E)
   safe_now x is = subst (λ y. Safe S w e T b (records_in (y ∷ new) D E))
       is (subst (λ rs. Safe S w e T b (records_in rs D E)) popped safe)
@@ -155,6 +255,7 @@ module _ {W R Y N : Type 0} {S : Space W R Y N} {w : W} {e : Places R} {T : List
         left = s.2;
         count =
             many v.done v.left v.whole (counted_now (records.All v) is).0;
+        enough = (opened_now S w D E o popped (records.All v) is).0;
       }
 
   pub one_tried : {t : R} → Stands S w t → (v : Traversed R) (u : R) (g : Saved) (m : Y) → r ≡ records.One v u g m →
@@ -168,6 +269,7 @@ module _ {W R Y N : Type 0} {S : Space W R Y N} {w : W} {e : Places R} {T : List
         left = s.3;
         count =
             many v.done v.left v.whole (counted_now (records.One v u g m) is).0;
+        enough = (opened_now S w D E o popped (records.One v u g m) is).0;
       }
 
   pub some_tried : {t : R} → Stands S w t → (v : Traversed R) (u : R) (found : Bool) (g : Saved) (m : Y) →
@@ -181,6 +283,7 @@ module _ {W R Y N : Type 0} {S : Space W R Y N} {w : W} {e : Places R} {T : List
         left = s.3;
         count =
             many v.done v.left v.whole (counted_now (records.Some v u found g m) is).0;
+        enough = (opened_now S w D E o popped (records.Some v u found g m) is).0;
       }
 
 pub part_of_nothing : {W R Y N : Type 0} {S : Space W R Y N} {M : Meaning} {w : W} {i here b l : ℕ} {t : R}

@@ -1,5 +1,6 @@
 -- What is left of a term's parts, and the portions of it that are put on a stack.
-use Rattle.std.proofs.Common.{◌≡◌, ℕ, zero, suc, ◌+◌, ◌-◌, ◌≤◌, List, [], ◌∷◌, ◌++◌, length, take, drop, map, refl, sym, ◌∙◌, ap, subst, arith}
+use Rattle.std.proofs.Common.{◌≡◌, ℕ, zero, suc, ◌+◌, ◌-◌, ◌≤◌, ◌<◌, List, [], ◌∷◌, ◌++◌, length, take, drop, map, refl, sym, ◌∙◌, ap, subst, arith}
+use Rattle.std.specs.Prelude.{Option, Some, None, MatchOption}
 use Rattle.std.proofs.Math.Seq.{take-append_seam, drop-append_seam}
 use Rattle.std.proofs.lemmas.List.{take-append-drop, drop_all}
 use Rattle.term_model.specs.Space.{Space, Stands}
@@ -8,11 +9,12 @@ use Rattle.term_model.specs.TermParts.{parts_of}
 use Rattle.term_model.proofs.TermLemmas.{trees_of-list_of}
 use Rattle.core_lang.specs.Derivation.{parts}
 use Rattle.strat_steps.specs.References.{trees_after, trees_left, AllRefs}
-use Rattle.strat_steps.specs.ReferenceSteps.{IsNext}
+use Rattle.strat_steps.specs.ReferenceSteps.{IsNext, HasNoMore}
 use Rattle.strat_patterns.proofs.ReferenceLists.{refs_of_all}
 use Rattle.strat_machine.specs.PartsOf.{PutsParts}
-use Rattle.strat_machine.specs.Traversing.{OpensParts, HasNone, TakesPart, TakesPortion}
-use Rattle.strat_machine.specs.declared.records.Records.{Records}
+use Rattle.strat_machine.specs.Opened.{HasOpened}
+use Rattle.strat_machine.specs.Traversing.{HasNone, HasNoneAfter, TakesPart, TakesPortion}
+use Rattle.strat_machine.specs.declared.portions.TakenPart.{TakenPart}
 use Rattle.strat_machine.specs.declared.records.Traversed.{Traversed}
 
 -- the parts after the first n
@@ -93,36 +95,24 @@ module _ {W R Y N : Type 0} {S : Space W R Y N} {w : W} where
   next_none {v} {old} {new} n x =
       let same : 1 + n ≡ suc n = omega arith in subst (λ m. HasNone S w v m old new) same x
 
-  -- the first portion is open
-  pub opens : {t : R} (n : ℕ) (old new : Records R Y) (us : List R) → PutsParts S w t 0 n old.left us →
-      new ≡ record old { left = us } → n ≤ length (parts_of (S.term_of w t)) →
-      (n ≡ 0 → length (parts_of (S.term_of w t)) ≡ 0) → OpensParts S w t n old new
-  opens {t} n old new us puts is within none =
-      let many : n ≡ n - 0 = omega arith in
-      record {
-        opened = puts.parts;
-        after = is ∙ ap (λ vs. record old { left = vs }) puts.after;
-        count = many ∙ puts.count;
-        standing = refs_of_all (λ r. Stands S w r) puts.parts puts.standing;
-        are = portion_left (S.term_of w) t 0 (n - 0) puts.parts puts.count puts.are;
-        none = λ h. let few = none h in none_after (S.term_of w) t 0 (omega (arith, few));
-      }
-
   -- the next part is there
   pub taken_there : (v : Traversed R) (n k : ℕ) (old new : List R) (part : R) → k ≡ v.left - 1 →
       take v.left old ≡ part ∷ take (v.left - 1) new → drop v.left old ≡ drop (v.left - 1) new →
-      TakesPart S w v n old part k new
-  taken_there v n k old new part less taken after = record {
+      HasOpened S w v.whole (n + length (take v.left old)) → TakesPart S w v n old part k new
+  taken_there v n k old new part less taken after enough = record {
     next = subst (λ us. IsNext S w v.whole n us part (take k new)) (sym taken)
         (subst (λ j. IsNext S w v.whole n (part ∷ take (v.left - 1) new) part (take j new)) (sym less) next_first);
     after = after ∙ ap (λ j. drop j new) (sym less);
+    enough = subst (λ us. HasOpened S w v.whole (n + length us)) (taken ∙ ap (λ j. part ∷ take j new) (sym less))
+        enough;
   }
 
   -- the next part is the first of a portion that is put on the stack
   pub portion_taken : (t : R) (from to k : ℕ) (old mid new : List R) (part : R) →
       PutsParts S w t from to old mid → take (to - from) mid ≡ part ∷ take (to - from - 1) new →
-      drop (to - from) mid ≡ drop (to - from - 1) new → k ≡ to - from - 1 → TakesPortion S w t from old part k new
-  portion_taken t from to k old mid new part puts taken after less =
+      drop (to - from) mid ≡ drop (to - from - 1) new → k ≡ to - from - 1 → from < to → HasOpened S w t to →
+      TakesPortion S w t from old part k new
+  portion_taken t from to k old mid new part puts taken after less some enough =
       let size = to - from in
       let f = S.term_of w in
       let all : puts.parts ≡ part ∷ take k new =
@@ -138,9 +128,12 @@ module _ {W R Y N : Type 0} {S : Space W R Y N} {w : W} where
       let left : trees_left f t from (part ∷ take k new) ≡ trees_after from (parts (f t)) =
       subst (λ us. trees_left f t from us ≡ trees_after from (parts (f t))) all
       (portion_left f t from size puts.parts puts.count puts.are) in
+      let many = puts.count ∙ ap length all in
+      let same : to ≡ from + suc (length (take k new)) = omega (arith, many, some) in
       record {
         next = record { are = sym left; standing = λ whole none. stand };
         after = rest;
+        enough = subst (HasOpened S w t) same enough;
       }
 
   pub portion_there : (v : Traversed R) (n k : ℕ) (old mid new : List R) (part : R) → take v.left old ≡ [] →
@@ -148,9 +141,22 @@ module _ {W R Y N : Type 0} {S : Space W R Y N} {w : W} where
   portion_there v n k old mid new part none same taken = record {
     next = subst (λ us. IsNext S w v.whole n us part (take k new)) (sym none) taken.next;
     after = nothing_before v.left old none ∙ (sym same ∙ taken.after);
+    enough = taken.enough;
   }
     where
       nothing_before : (j : ℕ) (xs : List R) → take j xs ≡ [] → drop j xs ≡ xs
       nothing_before zero xs e = refl
       nothing_before (suc j) [] e = refl
       nothing_before (suc j) (x ∷ xs) e = absurd (cc)
+
+-- a later portion is looked for
+pub later_found : {W R Y N : Type 0} (S : Space W R Y N) (w : W) (v : Traversed R) (n m : ℕ) (old mid new : List R) →
+    m ≡ n → take v.left old ≡ [] → mid ≡ old →
+    (o : Option (TakenPart R)) → MatchOption o (HasNoneAfter S w v.whole m mid new)
+    (λ x. TakesPortion S w v.whole m mid x.part x.left new) →
+    MatchOption o (HasNone S w v n old new) (λ x. TakesPart S w v n old x.part x.left new)
+later_found S w v n m old mid new many none same None h =
+    record { kept = h.kept ∙ same; none = none; no_more = subst (λ i. HasNoMore S w v.whole i) many h.no_more }
+later_found S w v n m old mid new many none same (Some x) h =
+    portion_there v n x.left old mid new x.part none same
+    (subst (λ i. TakesPortion S w v.whole i mid x.part x.left new) many h)

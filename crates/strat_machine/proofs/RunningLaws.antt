@@ -14,12 +14,13 @@ use Rattle.strat_code.specs.declared.instr.Case.{Case}
 use Rattle.strat_code.specs.declared.instr.Instr.{Instr}
 use Rattle.term_model.specs.Space.{Space, KeepsNames, Stands}
 use Rattle.strat_steps.specs.References.{ref_running, ref_rewritten, state_tree}
-use Rattle.strat_steps.specs.ReferenceSteps.{StepRef, StepsRef, no_step_ref}
+use Rattle.strat_steps.specs.ReferenceSteps.{StepsRef, no_step_ref}
 use Rattle.strat_steps.specs.Outcomes.{end_ref}
 use Rattle.strat_steps.specs.Run.{start_ref}
 use Rattle.strat_machine.specs.Running.{IsClear, GoesOn, HasEnded, IsOutcomeAt, UnderWay}
 use Rattle.strat_steps.specs.Marks.{Holds, Lasts}
 use Rattle.strat_steps.specs.Step.{IsGoing}
+use Rattle.strat_machine.specs.Opened.{AllOpened, StepOpened}
 use Rattle.strat_machine.specs.Stacks.{state_of}
 use Rattle.strat_machine.specs.Actions.{IsLoadedProgram}
 use Rattle.strat_machine.specs.declared.program.LoadedInstr.{LoadedInstr}
@@ -46,6 +47,7 @@ started S code M w t budget m h =
     (h.places i).trail (h.places i).barrier (h.records i) budget in
     record {
       steps = subst (λ s. StepsRef S code M 0 w (start_ref t budget) w s) (sym same) no_step_ref;
+      opened = subst (AllOpened S w) (sym h.records) tt;
       names =
           record { known = λ n x. x; symbols = λ n x. refl };
     }
@@ -103,14 +105,15 @@ module _ {W R Y N : Type 0} {S : Space W R Y N} {code : Code} {M : Meaning} {w w
       Stands S w2 r × (S.term_of w2 r ≡ S.term_of w r)
   kept_on u lasting r st = let l = lasting r (way_lasts u r st) in (l.0, l.1 ∙ way_terms u r st)
 
-  pub way_on : UnderWay S code M w t budget k w1 next p m → {w2 : W} {after : Next} {q : Position R} {m2 : Stacks R Y} →
-      StepRef S code M w1 (state_of next p m) w2 (state_of after q m2) → KeepsNames S w1 w2 →
+  pub way_on : UnderWay S code M w t budget k w1 next p m → Stands S w t → {w2 : W} {after : Next} {q : Position R}
+      {m2 : Stacks R Y} → StepOpened S code M w1 (state_of next p m) w2 (state_of after q m2) → KeepsNames S w1 w2 →
       UnderWay S code M w t budget (k + 1) w2 after q m2
-  way_on u {w2} {after} {q} {m2} x names =
+  way_on u st {w2} {after} {q} {m2} x names =
       let one : suc k ≡ k + 1 = omega arith in
       record {
         steps = subst (λ n. StepsRef S code M n w (start_ref t budget) w2 (state_of after q m2))
-            one (steps_then u.steps x);
+            one (steps_then u.steps x.step);
+        opened = x.opened (way_holds u st) u.opened;
         names = names_then u.names names;
       }
 

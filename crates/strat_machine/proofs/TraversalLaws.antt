@@ -1,5 +1,5 @@
 -- Traversals of the Rust machine.
-use Rattle.std.proofs.Common.{◌≡◌, ◌≤◌, ℕ, suc, ◌+◌, ◌-◌, List, [], ◌∷◌, ◌++◌, length, take, drop, map, reverse, append_assoc, append-nil, refl, sym, ◌∙◌, ap, subst, arith}
+use Rattle.std.proofs.Common.{◌≡◌, ◌≤◌, ◌<◌, ℕ, suc, ◌+◌, ◌-◌, List, [], ◌∷◌, ◌++◌, length, take, drop, map, reverse, append_assoc, append-nil, refl, sym, ◌∙◌, ap, subst, arith}
 use Rattle.std.specs.Prelude.{Bool, true, false}
 use Rattle.std.specs.Option.{option_map}
 use Rattle.std.proofs.Math.Seq.{take-append_seam, drop-append_seam}
@@ -22,10 +22,13 @@ use Rattle.strat_steps.specs.References.{Places, RefRecord, RefState, ref_all, r
 use Rattle.term_model.specs.Flat.{Meaning}
 use Rattle.strat_code.specs.Code.{part_done}
 use Rattle.strat_machine.specs.CompactRecords.{AdvancesAll}
-use Rattle.strat_steps.specs.ReferenceSteps.{IsNext, HasNoMore, Does, part_of_all, OnAll, all_goes_on, all_whole, all_oversize, OnOne, one_goes_on, one_none, OnSome, some_goes_on, some_whole, some_oversize, some_none}
+use Rattle.strat_steps.specs.ReferenceSteps.{IsNext, HasNoMore, Does, part_of_all, OnAll, all_goes_on, all_whole, all_oversize, OnOne, one_goes_on, OnSome, some_goes_on, some_whole, some_oversize, some_none}
+use Rattle.strat_machine.specs.Opened.{HasOpened, AllOpened, StateOpened}
 use Rattle.strat_machine.specs.RecordStack.{saved_of, records_in, records_of, with_record}
-use Rattle.strat_machine.proofs.PortionLaws.{left_are, next_first}
-use Rattle.strat_machine.specs.Traversing.{RebuildsTo, rebuilds, rebuilds_none}
+use Rattle.strat_machine.proofs.OpenedLaws.{opened_rebuilt}
+use Rattle.strat_machine.proofs.PortionLaws.{left_are, next_first, none_after}
+use Rattle.strat_machine.specs.Traversing.{RebuildsTo, rebuilds, rebuilds_none, HasParts, HasTried}
+use Rattle.strat_machine.specs.declared.portions.TheConstants.{FIRST_PORTION}
 use Rattle.strat_machine.specs.declared.stacks.Stacks.{Stacks}
 use Rattle.strat_machine.specs.declared.records.Saved.{Saved}
 use Rattle.strat_machine.specs.declared.records.Traversed.{Traversed}
@@ -193,28 +196,25 @@ module _ {R Y : Type 0} (rs np : Records R Y) (kept : np ≡ record rs { left = 
         true us w1 n) (sym none)
         (some_made body (take v.done rs.done) no_more made_here))
 
+    pub whole_opened : AllOpened S w1 (records_in rs.records (drop v.done rs.done) (drop v.left rs.left)) →
+        StateOpened S w1 n
+    whole_opened o = opened_rebuilt made_here o
+
   rest_is : (cut : Records R Y) →
       cut ≡ record { records = np.records; done = drop v.done np.done; left = drop v.left np.left } →
       records_in rs.records (drop v.done rs.done) (drop v.left rs.left) ≡ records_of cut
   rest_is cut is = ap (λ x. records_in x.records (drop v.done x.done) (drop v.left x.left)) (sym np_is) ∙
       ap (λ x. records_of x) (sym is)
 
+  pub cut_opened : {W N : Type 0} (S : Space W R Y N) (w : W) (cut : Records R Y) →
+      cut ≡ record { records = np.records; done = drop v.done np.done; left = drop v.left np.left } →
+      AllOpened S w (records_in rs.records (drop v.done rs.done) (drop v.left rs.left)) → AllOpened S w (records_of cut)
+  cut_opened S w cut is o = subst (AllOpened S w) (rest_is cut is) o
+
   module _ {W N : Type 0} {S : Space W R Y N} {w : W} (body next here : ℕ) (t : R) (e : Places R) (F : List Frame)
       (T : List ℕ) (b l : ℕ) (done : List R) (cut : Records R Y)
       (is : cut ≡ record { records = np.records; done = drop v.done np.done; left = drop v.left np.left })
       (no_more : HasNoMore S w t (length done)) where
-    pub one_fails : OnOne S w body next here t e F T b
-        (records_in rs.records (drop v.done rs.done) (drop v.left rs.left)) l done (take v.left rs.left)
-        (ref_failing e F T b (records_of cut) l)
-    one_fails =
-        subst (λ L. OnOne S w body next here t e F T b
-        (records_in rs.records (drop v.done rs.done) (drop v.left rs.left)) l done (take v.left rs.left)
-        (ref_failing e F T b L l)) (rest_is cut is)
-        (subst (λ us. OnOne S w body next here t e F T b
-        (records_in rs.records (drop v.done rs.done) (drop v.left rs.left))
-        l done us (ref_failing e F T b (records_in rs.records (drop v.done rs.done) (drop v.left rs.left)) l))
-        (sym none) (one_none no_more))
-
     pub some_fails : (found : Bool) → found ≡ false →
         OnSome S w body next here t e F T b (records_in rs.records (drop v.done rs.done) (drop v.left rs.left))
         l done found (take v.left rs.left) w (ref_failing e F T b (records_of cut) l)
@@ -277,6 +277,20 @@ module _ {R Y : Type 0} (rs np : Records R Y) (kept : np ≡ record rs { left = 
       let x = ap (λ u. u.body) other in let y = ap (λ u. u.next_address) other in let z = ap (λ u. u.whole) other in
       cc
 
+  module _ {W N : Type 0} (S : Space W R Y N) (w : W)
+      (enough : HasOpened S w v.whole (length (take v.done rs.done) + suc (length (take k np.left))))
+      (o : AllOpened S w (records_in rs.records (drop v.done rs.done) (drop v.left rs.left))) where
+    pub all_opened : (stack : List (Record R Y)) → stack ≡ records.All others ∷ np.records →
+        AllOpened S w (records_in stack np.done np.left)
+    all_opened stack put = subst (AllOpened S w) (all_record_is stack put) (enough, o)
+
+    pub one_opened : (g : Saved) (m : Y) → AllOpened S w (with_record (records.One others part g m) np)
+    one_opened g m = subst (AllOpened S w) (one_record_is g m (saved_of g) refl) (enough, o)
+
+    pub some_opened : (found : Bool) (g : Saved) (m : Y) →
+        AllOpened S w (with_record (records.Some others part found g m) np)
+    some_opened found g m = subst (AllOpened S w) (some_record_is found g m (saved_of g) refl) (enough, o)
+
   module _ {W N : Type 0} {S : Space W R Y N} {w : W} (here : ℕ) (e : Places R) (F : List Frame) (T : List ℕ) (b l : ℕ)
       (next : IsNext S w v.whole (length (take v.done rs.done)) (take v.left rs.left) part (take k np.left)) where
     pub all_goes : (stack : List (Record R Y)) → stack ≡ records.All others ∷ np.records →
@@ -326,37 +340,113 @@ module _ {R Y : Type 0} (rs np : Records R Y) (kept : np ≡ record rs { left = 
         (some_goes_on next marks)
 
 -- all(s) goes on with its next part, its record changed in place
-pub all_advances : {W R Y N : Type 0} {S : Space W R Y N} {M : Meaning} {w : W} {i here b l : ℕ} {t : R} {e : Places R}
-    {F : List Frame} {T : List ℕ} (rs : Records R Y) (new : List (Record R Y)) (others done : List R) (body : ℕ)
-    (part : R) →
-    AdvancesAll rs.records rs.left body part new others → done ≡ t ∷ rs.done →
-    Does S M w part_done i here t e F T b (records_of rs)
-    l w (ref_running body here part e F T b (records_in new done others) l)
-all_advances {S = S} {M} {w} {i} {here} {b} {l} {t} {e} {F} {T} rs new others done body part a put =
-    let v = a.traversed in
-    let k = v.left - 1 in
-    let some_left = a.more in
-    let one_less : v.left ≡ suc k = omega (arith, some_left) in
-    let K0 = records_in a.rest (drop v.done rs.done) (drop k others) in
-    let before : records_of rs ≡ ref_all v.body v.next_address v.whole (take v.done rs.done) (part ∷ take k others) ∷
-    K0 =
-    ap (λ x. records_in x rs.done rs.left) a.was ∙
-    (ap (λ E. ref_all v.body v.next_address v.whole (take v.done rs.done) (take v.left E) ∷
-    records_in a.rest (drop v.done rs.done) (drop v.left E)) a.taken ∙
-    ap (λ j. ref_all v.body v.next_address v.whole (take v.done rs.done) (take j (part ∷ others)) ∷
-    records_in a.rest (drop v.done rs.done) (drop j (part ∷ others))) one_less) in
-    let after : ref_all v.body v.next_address v.whole (t ∷ take v.done rs.done) (take k others) ∷
-    K0 ≡ records_in new done others =
-    sym (ap (λ x. records_in x done others) a.is ∙
-    ap (λ D. ref_all v.body v.next_address v.whole (take (suc v.done) D) (take k others) ∷
-    records_in a.rest (drop (suc v.done) D) (drop k others)) put) in
-    subst (λ K. Does S M w part_done i here t e F T b K l w
-    (ref_running body here part e F T b (records_in new done others) l)) (sym before)
-    (subst (λ K. Does S M w part_done i here t e F T b
-    (ref_all v.body v.next_address v.whole (take v.done rs.done) (part ∷ take k others) ∷ K0)
-    l w (ref_running body here part e F T b K l)) after
-    (subst (λ a. Does S M w part_done i here t e F T b
-    (ref_all v.body v.next_address v.whole (take v.done rs.done) (part ∷ take k others) ∷ K0)
-    l w (ref_running a here part e F T b
-    (ref_all v.body v.next_address v.whole (t ∷ take v.done rs.done) (take k others) ∷ K0) l)) (sym a.code)
-    (part_of_all (all_goes_on next_first))))
+module _ {R Y : Type 0} (rs : Records R Y) (new : List (Record R Y)) (others done : List R) (body : ℕ) (part t : R)
+    (a : AdvancesAll rs.records rs.left body part new others) (put : done ≡ t ∷ rs.done) where
+  record_before : records_of rs ≡
+      ref_all a.traversed.body a.traversed.next_address a.traversed.whole (take a.traversed.done rs.done)
+      (part ∷ take (a.traversed.left - 1) others) ∷
+      records_in a.rest (drop a.traversed.done rs.done) (drop (a.traversed.left - 1) others)
+  record_before =
+      let v = a.traversed in
+      let k = v.left - 1 in
+      let some_left = a.more in
+      let one_less : v.left ≡ suc k = omega (arith, some_left) in
+      ap (λ x. records_in x rs.done rs.left) a.was ∙
+      (ap (λ E. ref_all v.body v.next_address v.whole (take v.done rs.done) (take v.left E) ∷
+      records_in a.rest (drop v.done rs.done) (drop v.left E)) a.taken ∙
+      ap (λ j. ref_all v.body v.next_address v.whole (take v.done rs.done) (take j (part ∷ others)) ∷
+      records_in a.rest (drop v.done rs.done) (drop j (part ∷ others))) one_less)
+
+  record_after :
+      ref_all a.traversed.body a.traversed.next_address a.traversed.whole (t ∷ take a.traversed.done rs.done)
+      (take (a.traversed.left - 1) others) ∷
+      records_in a.rest (drop a.traversed.done rs.done) (drop (a.traversed.left - 1) others) ≡
+      records_in new done others
+  record_after =
+      let v = a.traversed in
+      let k = v.left - 1 in
+      sym (ap (λ x. records_in x done others) a.is ∙
+      ap (λ D. ref_all v.body v.next_address v.whole (take (suc v.done) D) (take k others) ∷
+      records_in a.rest (drop (suc v.done) D) (drop k others)) put)
+
+  pub advance_opened : {W N : Type 0} (S : Space W R Y N) (w : W) → AllOpened S w (records_of rs) →
+      AllOpened S w (records_in new done others)
+  advance_opened S w o =
+      let before = subst (AllOpened S w) record_before o in
+      let enough = before.0 in
+      subst (AllOpened S w) record_after (omega (arith, enough), before.1)
+
+  pub all_advances : {W N : Type 0} {S : Space W R Y N} {M : Meaning} {w : W} {i here b l : ℕ} {e : Places R}
+      {F : List Frame} {T : List ℕ} →
+      Does S M w part_done i here t e F T b (records_of rs)
+      l w (ref_running body here part e F T b (records_in new done others) l)
+  all_advances {S = S} {M} {w} {i} {here} {b} {l} {e} {F} {T} =
+      let v = a.traversed in
+      let k = v.left - 1 in
+      let K0 = records_in a.rest (drop v.done rs.done) (drop k others) in
+      subst (λ K. Does S M w part_done i here t e F T b K l w
+      (ref_running body here part e F T b (records_in new done others) l)) (sym record_before)
+      (subst (λ K. Does S M w part_done i here t e F T b
+      (ref_all v.body v.next_address v.whole (take v.done rs.done) (part ∷ take k others) ∷ K0)
+      l w (ref_running body here part e F T b K l)) record_after
+      (subst (λ a. Does S M w part_done i here t e F T b
+      (ref_all v.body v.next_address v.whole (take v.done rs.done) (part ∷ take k others) ∷ K0)
+      l w (ref_running a here part e F T b
+      (ref_all v.body v.next_address v.whole (t ∷ take v.done rs.done) (take k others) ∷ K0) l)) (sym a.code)
+      (part_of_all (all_goes_on next_first))))
+
+-- a part of a traversal has become this, and the traversal goes on
+module _ {W R Y N : Type 0} {S : Space W R Y N} {w : W} (rs : Records R Y) (v more : Traversed R) (t : R) (D : List R)
+    (tried : HasTried S w rs v t) (is : more ≡ record v { done = suc v.done }) (put : D ≡ t ∷ rs.done) where
+  pub tried_parts : HasParts S w (record rs { done = D }) more
+  tried_parts =
+      let count = tried.count in
+      let enough = tried.enough in
+      let parts : HasParts S w (record rs { done = t ∷ rs.done }) (record v { done = suc v.done }) =
+      record {
+        whole = tried.whole;
+        done = (tried.part, tried.done);
+        left = tried.left;
+        count = omega (arith, count);
+        enough = omega (arith, enough);
+      } in
+      subst (λ u. HasParts S w (record rs { done = D }) u) (sym is)
+      (subst (λ E. HasParts S w (record rs { done = E }) (record v { done = suc v.done })) (sym put) parts)
+
+  -- fewer parts than a first portion may have are done, and none is left: the term has no others
+  module _ (none_left : more.left ≡ 0) (few : more.done < FIRST_PORTION) where
+    left_none : v.left ≡ 0
+    left_none = ap (λ u. u.left) (sym is) ∙ none_left
+
+    no_more_after : HasNoMore S w v.whole (suc (length (take v.done rs.done)))
+    no_more_after =
+        let none : length (take v.left rs.left) ≡ 0 = ap (λ k. length (take k rs.left)) left_none in
+        let many = length-take v.done rs.done in
+        let enough = tried.enough in
+        let less = ap (λ u. u.done) is in
+        none_after (S.term_of w) v.whole (suc (length (take v.done rs.done)))
+        (omega (arith, enough, none, many, less, few))
+
+    module _ {w1 : W} {here : ℕ} {m : Stacks R Y} {n : RefState R Y}
+        (made : RebuildsTo S w more.whole (reverse (take more.done D)) m
+        (records_in rs.records (drop more.done D) (drop more.left rs.left)) more.next_address here w1 n) where
+      made_at_end : RebuildsTo S w v.whole (reverse (t ∷ take v.done rs.done)) m
+          (records_in rs.records (drop v.done rs.done) (drop v.left rs.left)) v.next_address here w1 n
+      made_at_end = subst (λ E. RebuildsTo S w v.whole (reverse (take (suc v.done) E)) m
+          (records_in rs.records (drop (suc v.done) E) (drop v.left rs.left)) v.next_address here w1 n) put
+          (subst (λ u. RebuildsTo S w u.whole (reverse (take u.done D)) m
+          (records_in rs.records (drop u.done D) (drop u.left rs.left)) u.next_address here w1 n) is made)
+
+      pub all_at_end : OnAll S w v.body v.next_address here v.whole m.places.slots m.frames m.places.trail
+          m.places.barrier (records_in rs.records (drop v.done rs.done) (drop v.left rs.left)) m.left
+          (t ∷ take v.done rs.done) (take v.left rs.left) w1 n
+      all_at_end =
+          let none : take v.left rs.left ≡ [] = ap (λ k. take k rs.left) left_none in
+          subst (λ us. OnAll S w v.body v.next_address here v.whole m.places.slots m.frames m.places.trail
+          m.places.barrier (records_in rs.records (drop v.done rs.done) (drop v.left rs.left)) m.left
+          (t ∷ take v.done rs.done) us w1 n) (sym none)
+          (all_made v.body (t ∷ take v.done rs.done) no_more_after made_at_end)
+
+      pub end_opened : AllOpened S w1 (records_in rs.records (drop v.done rs.done) (drop v.left rs.left)) →
+          StateOpened S w1 n
+      end_opened o = opened_rebuilt made_at_end o

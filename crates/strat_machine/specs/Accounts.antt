@@ -42,6 +42,13 @@ pub record IsAccount (M : Meaning) (P : Definitions Name (List Name)) (main : Na
   pub ending : account.ending ≡ outcome_ending outcome
   pub rules : AreRules outcome nodes (sum account.rules.items)
 
+-- there is a number of each kind for each of n instructions
+pub record HasCounts (n : ℕ) (account : Account) : Type 0 where
+  pub rules : length account.rules.items ≡ n
+  pub reached : length account.reached.items ≡ n
+  pub passed : length account.passed.items ≡ n
+  pub unfinished : length account.unfinished.items ≡ n
+
 -- a run that has ended ends so
 abbrev pub IsEnding : Next → Ending → Type 0
 IsEnding nexts.Rewritten e = e ≡ endings.Rewritten

@@ -1,5 +1,6 @@
 pub mod RecordStack
 pub mod CompactRecords
+pub mod Opened
 pub mod Stacks
 pub mod Selecting
 pub mod PartsOf
@@ -11,3 +12,5 @@ pub mod Actions
 pub mod Indexing
 pub mod Calculating
 pub mod Accounts
+pub mod LeftSides
+pub mod Notes

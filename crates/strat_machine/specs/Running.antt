@@ -8,6 +8,7 @@ use Rattle.strat_code.specs.Code.{Code}
 use Rattle.strat_steps.specs.Run.{start_ref}
 use Rattle.term_model.specs.Space.{Space, KeepsNames}
 use Rattle.strat_steps.specs.ReferenceSteps.{StepsRef}
+use Rattle.strat_machine.specs.Opened.{StateOpened}
 use Rattle.strat_machine.specs.RecordStack.{records_of}
 use Rattle.strat_machine.specs.Stacks.{state_of}
 use Rattle.strat_machine.specs.declared.stacks.Stacks.{Stacks}
@@ -49,10 +50,12 @@ rules_of outcomes.Failed b l = b - l
 rules_of outcomes.Oversize b l = b - l
 rules_of outcomes.Spent b l = b
 
--- n steps have led from the start of a run to this, and names are known as at the start
+-- n steps have led from the start of a run to this, where each traversal has its first portion, and names are known as
+-- at the start
 pub record UnderWay {W R Y N : Type 0} (S : Space W R Y N) (code : Code) (M : Meaning) (w : W) (t : R) (budget k : ℕ)
     (w1 : W) (next : Next) (p : Position R) (m1 : Stacks R Y) : Type 0 where
   pub steps : StepsRef S code M k w (start_ref t budget) w1 (state_of next p m1)
+  pub opened : StateOpened S w1 (state_of next p m1)
   pub names : KeepsNames S w w1
 
 -- some steps have led from the start of a run to this

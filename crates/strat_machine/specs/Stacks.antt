@@ -6,8 +6,9 @@ use Rattle.strat_code.specs.Code.{Instr, Code}
 use Rattle.strat_steps.specs.State as state
 use Rattle.term_model.specs.Space.{Space, IsMark}
 use Rattle.strat_steps.specs.References.{RefRecord, RefState, ref_choice, ref_running, ref_failing, ref_rewritten, ref_stopped}
-use Rattle.strat_steps.specs.ReferenceSteps.{Does, StepRef}
+use Rattle.strat_steps.specs.ReferenceSteps.{Does}
 use Rattle.strat_steps.specs.Marks.{Safe}
+use Rattle.strat_machine.specs.Opened.{StepOpened}
 use Rattle.strat_machine.specs.RecordStack.{records_of, saved_of, with_record}
 use Rattle.strat_patterns.specs.declared.building.Built.{Built}
 use Rattle.strat_patterns.specs.declared.building.Built.TheVariants as built
@@ -56,7 +57,7 @@ IsSafe S w m K = Safe S w m.places.slots m.places.trail m.places.barrier K
 abbrev pub FailsTo : {W R Y N : Type 0} → Space W R Y N → Code → Meaning → W → Stacks R Y → List (RefRecord R Y) → W →
     Next → Position R → Stacks R Y → Type 0
 FailsTo S code M w m K w1 next p m1 =
-    StepRef S code M w (ref_failing m.places.slots m.frames m.places.trail m.places.barrier K m.left)
+    StepOpened S code M w (ref_failing m.places.slots m.frames m.places.trail m.places.barrier K m.left)
     w1 (state_of next p m1)
 
 -- a part is tried on: the machine runs the code for it, with a record that has a new mark

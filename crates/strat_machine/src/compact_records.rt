@@ -1,8 +1,9 @@
 //! Control records in little memory: what a failure restores and the traversals stand on stacks of their own.
-ghost use Rattle.std.specs.Prelude.{◌≡◌, false, IsTrue, MatchOption, IfOk, OnOk, List, [], ◌∷◌, reverse};
+ghost use Rattle.std.specs.Prelude.{◌≡◌, false, IsTrue, MatchOption, IfOk, OnOk, List, [], ◌∷◌, length, reverse};
 ghost use Rattle.strat_machine.specs.declared.compact_records.CompactTraversed.{CompactTraversed};
 ghost use Rattle.strat_machine.specs.CompactRecords.{HasNoCall, HasNoChoice, HasNoAll, HasChoice, AdvancesAll, traversed_in};
 
+use crate::addresses::{Addresses, count_at};
 use crate::records::{Record, Saved, Traversed};
 use crate::stack::Stack;
 use std::alloc::{AllocError, Global};
@@ -126,7 +127,6 @@ impl<R: Drop, M: Drop> CompactRecords<R, M> {
     }
 
     /// Puts the record of all(s) on.
-    #[inline(always)]
     pub(crate) fn push_all(&mut self, traversed: Traversed<R>) -> Result<(), AllocError>
         ensures { OnOk result (self.new ≡ Record.All traversed ∷ self.old) }
     {
@@ -322,6 +322,33 @@ impl<R: Drop, M: Drop> CompactRecords<R, M> {
                     saved,
                     mark,
                 })
+            }
+        }
+    }
+
+    /// The number of records.
+    pub(crate) fn len(&self) -> usize {
+        self.records.len()
+    }
+
+    /// The next address of the newest record, if it is of a call.
+    pub(crate) fn newest_call(&self) -> Option<usize> {
+        match self.records.newest_item()? {
+            CompactRecord::Call { next_address, .. } => Some(*next_address as usize),
+            _ => None,
+        }
+    }
+
+    /// Counts the calls that wait, each at the address after it, if that is one of `own`.
+    pub(crate) fn count_calls(&self, own: &Addresses, counts: &mut Vec<u64>)
+        ensures { length counts.new.items ≡ length counts.old.items }
+    {
+        for waiting in self.records.newest(self.records.len()) {
+            if let CompactRecord::Call { next_address, .. } = waiting {
+                let address = *next_address as usize;
+                if own.contains(address) {
+                    count_at(counts, address);
+                }
             }
         }
     }

@@ -1,17 +1,18 @@
 //! What explanations of a run are made of: what it cost, how it ended, and where it stood.
-ghost use Rattle.std.specs.Prelude.{◌≡◌, ◌≤◌, IsTrue, IfOk};
+ghost use Rattle.std.specs.Prelude.{◌≡◌, ◌≤◌, IsTrue, IfOk, length};
 ghost use Rattle.term_model.specs.Limits.{max_budget};
 ghost use Rattle.term_model.specs.Space.{KeepsNames};
 ghost use Rattle.prim_registry.specs.Entries.{IsHonest, entries_of};
 ghost use Rattle.prim_registry.specs.Registered.{meaning_of};
 ghost use Rattle.strat_code.specs.CodeOf.{code_of};
 ghost use Rattle.strat_steps.specs.Marks.{Holds};
-ghost use Rattle.strat_machine.specs.Accounts.{IsEnding, IsAccountOfRun};
+ghost use Rattle.strat_machine.specs.Accounts.{HasCounts, IsEnding, IsAccountOfRun};
 ghost use Rattle.strat_machine.specs.Actions.{IsLoadedProgram};
 ghost use Rattle.strat_steps.specs.References.{AllPlaces};
 ghost use Rattle.strat_machine.specs.Running.{IsClear, HasEnded};
 ghost use Rattle.strat_machine.specs.Stacks.{state_of};
 
+use crate::addresses::{Addresses, count_at};
 use crate::partial::{Notes, Progress, run_part};
 use crate::program::LoadedProgram;
 use crate::shortening::first_nodes;
@@ -56,6 +57,13 @@ pub struct Account {
     /// How many rules, which are nodes of the derivation, the instruction at each address was charged. What is left of a budget that
     /// does not suffice for the next instruction is charged to none.
     pub rules: Vec<u64>,
+    /// How often the instruction at each address was reached.
+    pub reached: Vec<u64>,
+    /// How often it neither failed nor ended the run.
+    pub passed: Vec<u64>,
+    /// In how many calls of definitions the run ended: by the address at which each would have gone on or, for the innermost one, by
+    /// that of the last instruction. 0 for each address where a run was rewritten or failed.
+    pub unfinished: Vec<u64>,
     /// How the run ended within the budget.
     pub ending: Ending,
     /// How many steps came before that of the last instruction. A run that failed did so by this instruction, after which no alternative
@@ -88,6 +96,7 @@ pub(crate) fn account_of<S: TermSpace, M: PrimMeaning>(
     ensures account { IfOk result (λ account. IsAccountOfRun S.space
         (code_of code.now.tables code.now.instrs) (meaning_of M.answer registry.now)
         space.old term budget space.new account) }
+    ensures counts { IfOk result (λ account. HasCounts (length code.now.instrs) account) }
     ensures kept { (r : S.Ref) → IsTrue (S.space.stands space.old r) →
         IsTrue (S.space.stands space.new r) ×
         (S.space.term_of space.new r ≡ S.space.term_of space.old r) }
@@ -107,12 +116,37 @@ pub(crate) fn account_of<S: TermSpace, M: PrimMeaning>(
         &mut notes,
     )?;
     let ending = ending_of(progress.next);
+    let unfinished = unfinished_calls(alloc, code, stacks, notes.failures.last_address, ending)?;
     Ok(Account {
         rules: notes.rules,
+        reached: notes.reached,
+        passed: notes.passed,
+        unfinished,
         ending,
         before_last: notes.failures.before_last,
         before_deepest: notes.failures.before_deepest,
     })
+}
+
+/// Returns how many calls of definitions had not ended when a run did, by addresses; the last instruction was at `last`.
+fn unfinished_calls<R: Drop, M: Drop>(
+    alloc: Global,
+    code: &Code,
+    stacks: &Stacks<R, M>,
+    last: usize,
+    ending: Ending,
+) -> Result<Vec<u64>, AllocError>
+    ensures { IfOk result (λ counts. length counts.items ≡ length code.now.instrs) }
+{
+    let mut counts = Vec::from_elem(alloc, 0u64, code.len())?;
+    if let Ending::Oversize | Ending::Spent = ending {
+        let own = Addresses::of_own_code(alloc, code, code.entries())?;
+        stacks.records.records.count_calls(&own, &mut counts);
+        if own.contains(last) {
+            count_at(&mut counts, last);
+        }
+    }
+    Ok(counts)
 }
 
 /// Where a run of loaded code stands after this number of steps, from clear stacks on, if an instruction comes next. Some of the run may be

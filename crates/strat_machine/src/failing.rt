@@ -6,6 +6,7 @@ ghost use Rattle.term_model.specs.Flat.{Meaning};
 ghost use Rattle.strat_code.specs.Code.{Code};
 ghost use Rattle.strat_machine.specs.CompactRecords.{HasNoCall, HasNoChoice};
 ghost use Rattle.strat_machine.specs.RecordStack.{records_of, with_record};
+ghost use Rattle.strat_machine.specs.Opened.{AllOpened};
 ghost use Rattle.strat_machine.specs.Stacks.{FailsTo, IsSafe};
 ghost use Rattle.strat_machine.specs.declared.stacks.Next.TheVariants.{Running};
 
@@ -23,7 +24,8 @@ pub(crate) fn fail<S: TermSpace>(
     stacks: &mut Stacks<S::Ref, S::Mark>,
     position: &mut Position<S::Ref>,
 ) -> Result<Next, AllocError>
-    requires { IsSafe S.space space.old stacks.old (records_of stacks.old.records) }
+    requires safe { IsSafe S.space space.old stacks.old (records_of stacks.old.records) }
+    requires opened { AllOpened S.space space.old (records_of stacks.old.records) }
     ensures names { KeepsNames S.space space.old space.new }
     ensures covered { (r : S.Ref) → MarksCover S.space r (records_of stacks.old.records) →
         IsTrue (S.space.stands space.old r) → IsTrue (S.space.stands space.new r) ×
@@ -51,6 +53,7 @@ fn fail_traversal<S: TermSpace>(
     requires safe { IsSafe S.space space.old stacks.old (records_of stacks.old.records) }
     requires call { HasNoCall stacks.old.records.records }
     requires choice { HasNoChoice stacks.old.records.records }
+    requires opened { AllOpened S.space space.old (records_of stacks.old.records) }
     ensures names { KeepsNames S.space space.old space.new }
     ensures covered { (r : S.Ref) → MarksCover S.space r (records_of stacks.old.records) →
         IsTrue (S.space.stands space.old r) → IsTrue (S.space.stands space.new r) ×
@@ -154,7 +157,9 @@ fn fail_one<S: TermSpace>(
     mark: S::Mark,
     position: &mut Position<S::Ref>,
 ) -> Result<Next, AllocError>
-    requires { IsSafe S.space space.old stacks.old
+    requires safe { IsSafe S.space space.old stacks.old
+        (with_record (Record.One traversed part saved mark) stacks.old.records) }
+    requires opened { AllOpened S.space space.old
         (with_record (Record.One traversed part saved mark) stacks.old.records) }
     ensures names { KeepsNames S.space space.old space.new }
     ensures covered { (r : S.Ref) → MarksCover S.space r
@@ -191,7 +196,9 @@ fn fail_some<S: TermSpace>(
     mark: S::Mark,
     position: &mut Position<S::Ref>,
 ) -> Result<Next, AllocError>
-    requires { IsSafe S.space space.old stacks.old
+    requires safe { IsSafe S.space space.old stacks.old
+        (with_record (Record.Some traversed part found saved mark) stacks.old.records) }
+    requires opened { AllOpened S.space space.old
         (with_record (Record.Some traversed part found saved mark) stacks.old.records) }
     ensures names { KeepsNames S.space space.old space.new }
     ensures covered { (r : S.Ref) → MarksCover S.space r

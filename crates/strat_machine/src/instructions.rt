@@ -7,8 +7,8 @@ ghost use Rattle.strat_code.specs.CodeOf.{code_of};
 ghost use Rattle.strat_steps.specs.Counted.{StateCounted};
 ghost use Rattle.strat_steps.specs.Marks.{Holds, Lasts};
 ghost use Rattle.strat_steps.specs.References.{state_tree};
-ghost use Rattle.strat_steps.specs.ReferenceSteps.{StepRef};
 ghost use Rattle.strat_machine.specs.Actions.{IsLoadedProgram};
+ghost use Rattle.strat_machine.specs.Opened.{StateOpened, StepOpened};
 ghost use Rattle.strat_machine.specs.Running.{GoesOn};
 ghost use Rattle.strat_machine.specs.Stacks.{state_of};
 ghost use Rattle.strat_machine.specs.declared.stacks.Next.TheVariants.{Running};
@@ -45,6 +45,7 @@ pub(crate) fn step<S: TermSpace, M: PrimMeaning>(
     requires holds { Holds S.space space.old (state_of next position.old stacks.old) }
     requires counted { StateCounted (state_tree (S.space.term_of space.old)
         (state_of next position.old stacks.old)) }
+    requires opened { StateOpened S.space space.old (state_of next position.old stacks.old) }
     requires honest { IsHonest M.answer registry.now }
     requires loaded { IsLoadedProgram (S.space.knows space.old) (S.space.symbol_of space.old)
         (entries_of registry.now)
@@ -54,8 +55,9 @@ pub(crate) fn step<S: TermSpace, M: PrimMeaning>(
         (state_of next position.old stacks.old) →
         IsTrue (S.space.stands space.new r) ×
         (S.space.term_of space.new r ≡ S.space.term_of space.old r) }
-    ensures step { IfOk result (λ after. StepRef S.space (code_of code.now.tables code.now.instrs)
-        (meaning_of M.answer registry.now) space.old (state_of next position.old stacks.old)
+    ensures step { IfOk result (λ after. StepOpened S.space
+        (code_of code.now.tables code.now.instrs) (meaning_of M.answer registry.now)
+        space.old (state_of next position.old stacks.old)
         space.new (state_of after position.new stacks.new)) }
 {
     match next {
@@ -90,13 +92,15 @@ pub(crate) fn perform<S: TermSpace, M: PrimMeaning>(
     requires holds { Holds S.space space.old (state_of Running position.old stacks.old) }
     requires counted { StateCounted (state_tree (S.space.term_of space.old)
         (state_of Running position.old stacks.old)) }
+    requires opened { StateOpened S.space space.old (state_of Running position.old stacks.old) }
     requires honest { IsHonest M.answer registry.now }
     requires loaded { IsLoadedProgram (S.space.knows space.old) (S.space.symbol_of space.old)
         (entries_of registry.now)
         S.space.number_of program.now code.now.tables code.now.instrs }
     ensures keeps { Keeps S.space space.old space.new }
-    ensures step { IfOk result (λ after. StepRef S.space (code_of code.now.tables code.now.instrs)
-        (meaning_of M.answer registry.now) space.old (state_of Running position.old stacks.old)
+    ensures step { IfOk result (λ after. StepOpened S.space
+        (code_of code.now.tables code.now.instrs) (meaning_of M.answer registry.now)
+        space.old (state_of Running position.old stacks.old)
         space.new (state_of after position.new stacks.new)) }
 {
     let instr = &instrs[position.address];

@@ -1,5 +1,5 @@
 //! The machine: it runs code on the terms of a space.
-ghost use Rattle.std.specs.Prelude.{◌≡◌, ◌+◌, ◌*◌, ◌≤◌, ℕ, List, IsTrue, IfOk, IfErr};
+ghost use Rattle.std.specs.Prelude.{◌≡◌, ◌+◌, ◌*◌, ◌≤◌, ℕ, List, IsTrue, IfOk, IfErr, length};
 ghost use Rattle.term_model.specs.Limits.{max_budget};
 ghost use Rattle.term_model.specs.Space.{Keeps, KeepsNames};
 ghost use Rattle.core_lang.specs.Named.{Name};
@@ -13,7 +13,7 @@ ghost use Rattle.prim_registry.specs.RegistryNames.{Covers};
 ghost use Rattle.strat_code.specs.CodeOf.{code_of};
 ghost use Rattle.strat_code.specs.StandsFor.{StandsFor};
 ghost use Rattle.strat_steps.specs.Outcomes.{OutcomeStands, Ran, outcome_tree};
-ghost use Rattle.strat_machine.specs.Accounts.{IsAccount};
+ghost use Rattle.strat_machine.specs.Accounts.{HasCounts, IsAccount};
 ghost use Rattle.prim_registry.specs.Registered.{meaning_of};
 ghost use Rattle.term_model.specs.Results.{Returns};
 
@@ -21,6 +21,7 @@ use crate::explaining::{Account, Stand, account_of, stand_after};
 use crate::program::load_program;
 use crate::running::run_code;
 use crate::stacks::Stacks;
+use crate::tracing::{Trace, Watched, trace_of};
 use core_lang::Run;
 use prim_registry::{PrimMeaning, Registry};
 use std::alloc::{AllocError, Global};
@@ -135,10 +136,11 @@ impl<S: TermSpace + Drop> Machine<S> {
     }
 
     /// Runs the code on the term within a budget of rules, and returns an account of the run: how many rules the instruction
-    /// at each address was charged, how the run ended, and at which steps it failed.
+    /// at each address was charged, how often it was reached and passed, how the run ended, and at which steps it failed.
     ///
     /// The ending is that of every program that the code stands for, and the rules add up to the nodes of the derivation; where the
-    /// budget is spent, to no more than the budget. No contract speaks of the steps. The space keeps its terms and names, also after a
+    /// budget is spent, to no more than the budget. Of the other counts a contract says that there is one for each instruction; none
+    /// speaks of the steps. The space keeps its terms and names, also after a
     /// fault. The only fault is `Memory`: a growth was refused, here or in a primitive. After a fault, as after an account, the machine
     /// can run again.
     pub fn account<M: PrimMeaning>(
@@ -157,6 +159,7 @@ impl<S: TermSpace + Drop> Machine<S> {
             StandsFor (code_of code.now.tables code.now.instrs) C i →
             AreOccurring code.now.prims C → ResolvesProgram P main C i →
             IsAccount M.answer P main (S.space.term_of self.old term) budget account) }
+        ensures counts { IfOk result (λ account. HasCounts (length code.now.instrs) account) }
         ensures kept { (r : S.Ref) → IsTrue (S.space.stands self.old r) →
             IsTrue (S.space.stands self.new r) ×
             (S.space.term_of self.new r ≡ S.space.term_of self.old r) }
@@ -177,6 +180,45 @@ impl<S: TermSpace + Drop> Machine<S> {
         );
         self.stacks.clear();
         Ok(account?)
+    }
+
+    /// Runs the code in the same way, once or, for the calls that fail, three times, and returns the calls of watched definitions.
+    ///
+    /// The space keeps its terms and names, also after a fault. No contract speaks of what is returned. The only fault is `Memory`: a
+    /// growth was refused, here or in a primitive. After a fault, as after a trace, the machine can run again.
+    pub fn trace<M: PrimMeaning>(
+        &mut self,
+        code: &Code,
+        term: &S::Ref,
+        budget: u64,
+        registry: &Registry<M>,
+        watched: &Watched,
+    ) -> Result<Trace, Fault>
+        requires budget { budget ≤ max_budget }
+        requires stands { IsTrue (S.space.stands self.old term.now) }
+        requires honest { IsHonest M.answer registry.now }
+        requires covers { Covers registry.now code.now.prims }
+        ensures kept { (r : S.Ref) → IsTrue (S.space.stands self.old r) →
+            IsTrue (S.space.stands self.new r) ×
+            (S.space.term_of self.new r ≡ S.space.term_of self.old r) }
+        ensures names { KeepsNames S.space self.old self.new }
+        ensures fault { IfErr result (λ fault. fault ≡ Fault.Memory) }
+    {
+        let space = &mut self.space;
+        let program = load_program(space, self.alloc, code, registry)?;
+        let trace = trace_of(
+            space,
+            self.alloc,
+            &mut self.stacks,
+            code,
+            &program,
+            registry,
+            term,
+            budget,
+            watched,
+        );
+        self.stacks.clear();
+        Ok(trace?)
     }
 
     /// Takes the first `count` steps of such a run, and returns where it then stands; nothing where no instruction comes next.

@@ -7,14 +7,17 @@ ghost use Rattle.prim_registry.specs.Registered.{meaning_of};
 ghost use Rattle.strat_code.specs.CodeOf.{code_of};
 ghost use Rattle.strat_steps.specs.Marks.{Holds};
 ghost use Rattle.strat_machine.specs.Accounts.{Charges, IsCharged};
+ghost use Rattle.strat_machine.specs.Notes.{HaveRoom, HaveSameRoom};
 ghost use Rattle.strat_machine.specs.Actions.{IsLoadedProgram};
 ghost use Rattle.strat_machine.specs.Running.{IsClear, HasEnded, HasReached};
 ghost use Rattle.strat_machine.specs.Stacks.{state_of};
 
+use crate::addresses::count_at;
 use crate::instructions::step;
 use crate::program::LoadedProgram;
 use crate::running::goes_on;
 use crate::stacks::{Next, Position, Scratch, Stacks};
+use crate::tracer::Tracer;
 use prim_registry::{PrimMeaning, Registry};
 use std::alloc::{AllocError, Global};
 use strat_code::{Code, Instr};
@@ -25,7 +28,13 @@ use term_model::TermSpace;
 pub(crate) struct Notes {
     /// How many rules the instruction at each address was charged.
     pub(crate) rules: Vec<u64>,
+    /// How often the instruction at each address was reached.
+    pub(crate) reached: Vec<u64>,
+    /// How often it neither failed nor ended the run.
+    pub(crate) passed: Vec<u64>,
     pub(crate) failures: Failures,
+    /// What is noted of calls.
+    pub(crate) tracer: Tracer,
 }
 
 /// At which steps a run ended and failed.
@@ -33,6 +42,8 @@ pub(crate) struct Notes {
 pub(crate) struct Failures {
     /// How many steps came before that of the last instruction.
     pub(crate) before_last: u64,
+    /// Its address.
+    pub(crate) last_address: usize,
     /// How many steps came before that of the deepest instruction that failed, of those since a call last returned. Of several at the same
     /// depth it is the last one behind a match or a call that returned and, if there is none, the last one.
     pub(crate) before_deepest: u64,
@@ -44,18 +55,15 @@ pub(crate) struct Failures {
     has_matched: bool,
 }
 
-/// A step of a run.
+/// Where a run was before a step.
 #[derive(Clone, Copy)]
 struct Step {
-    /// The address of the instruction, if it performed one.
+    /// The address of the instruction, if it performs one.
     address: usize,
     /// How many steps came before it.
     steps: u64,
-    /// How many frames there were before it.
+    /// How many frames there were.
     depth: usize,
-    /// How many rules it was charged.
-    charged: usize,
-    effect: Effect,
 }
 
 /// What came of a step.
@@ -70,35 +78,53 @@ enum Effect {
     Called,
     /// A call of a definition or of an argument has returned.
     Returned,
+    /// It has ended the run, since the budget did not suffice or a term was too large.
+    Ended,
     Other,
 }
 
 impl Notes {
-    /// Notes of no step, with room for the rules of this number of instructions; those of others are not noted.
+    /// Notes of no step, with room for this number of instructions: what others do is not noted, nor are calls.
     pub(crate) fn new(alloc: Global, count: usize) -> Result<Notes, AllocError>
         ensures none { IfOk result (λ notes. sum notes.rules.items ≡ 0) }
-        ensures room { IfOk result (λ notes. length notes.rules.items ≡ count) }
+        ensures room { IfOk result (λ notes. HaveRoom count notes) }
     {
-        let rules = Vec::from_elem(alloc, 0u64, count)?;
         Ok(Notes {
-            rules,
-            failures: Failures {
-                before_last: 0,
-                before_deepest: 0,
-                depth: 0,
-                is_behind_match: false,
-                has_matched: false,
-            },
+            rules: Vec::from_elem(alloc, 0u64, count)?,
+            reached: Vec::from_elem(alloc, 0u64, count)?,
+            passed: Vec::from_elem(alloc, 0u64, count)?,
+            failures: Failures::none(),
+            tracer: Tracer::none(alloc),
         })
     }
 
-    /// Notes a step.
-    fn add(&mut self, step: Step)
-        requires { sum self.old.rules.items + step.charged < 2 ^ 64 }
-        ensures { Charges self.old.rules.items step.address step.charged self.new.rules.items }
+    /// Notes of no step, with room for calls alone.
+    pub(crate) fn of_calls(alloc: Global, tracer: Tracer) -> Notes
+        ensures { sum result.rules.items ≡ 0 }
     {
-        charge(&mut self.rules, step.address, step.charged as u64);
-        self.failures.add(step);
+        Notes {
+            rules: Vec::new(alloc),
+            reached: Vec::new(alloc),
+            passed: Vec::new(alloc),
+            failures: Failures::none(),
+            tracer,
+        }
+    }
+
+    /// Notes a step.
+    fn add(&mut self, step: Step, charged: usize, effect: Effect)
+        requires { sum self.old.rules.items + charged < 2 ^ 64 }
+        ensures charges { Charges self.old.rules.items step.address charged self.new.rules.items }
+        ensures rest { HaveSameRoom self.old self.new }
+    {
+        charge(&mut self.rules, step.address, charged as u64);
+        if effect != Effect::WentBack {
+            count_at(&mut self.reached, step.address);
+        }
+        if effect.has_passed() {
+            count_at(&mut self.passed, step.address);
+        }
+        self.failures.add(step, effect);
     }
 }
 
@@ -112,18 +138,54 @@ fn charge(rules: &mut Vec<u64>, address: usize, count: u64)
     }
 }
 
-impl Failures {
-    /// Notes a step.
-    fn add(&mut self, step: Step) {
-        if step.effect != Effect::WentBack {
-            self.before_last = step.steps;
+impl Step {
+    /// The step after this number of steps, from a position on where there are `depth` frames.
+    fn at<R: Drop>(steps: u64, position: &Position<R>, depth: usize) -> Step
+        ensures { result.address ≡ position.now.address }
+    {
+        Step {
+            address: position.address,
+            steps,
+            depth,
         }
-        match step.effect {
+    }
+}
+
+impl Effect {
+    /// Whether an instruction was performed, which neither failed nor ended the run.
+    fn has_passed(self) -> bool {
+        match self {
+            Effect::WentBack | Effect::Failed | Effect::Ended => false,
+            Effect::Matched | Effect::Called | Effect::Returned | Effect::Other => true,
+        }
+    }
+}
+
+impl Failures {
+    /// No step was noted.
+    fn none() -> Failures {
+        Failures {
+            before_last: 0,
+            last_address: 0,
+            before_deepest: 0,
+            depth: 0,
+            is_behind_match: false,
+            has_matched: false,
+        }
+    }
+
+    /// Notes a step.
+    fn add(&mut self, step: Step, effect: Effect) {
+        if effect != Effect::WentBack {
+            self.before_last = step.steps;
+            self.last_address = step.address;
+        }
+        match effect {
             Effect::Failed => self.add_failure(step),
             Effect::Matched => self.has_matched = true,
             Effect::Called => self.has_matched = false,
             Effect::Returned => self.add_return(),
-            Effect::WentBack | Effect::Other => {}
+            Effect::WentBack | Effect::Ended | Effect::Other => {}
         }
     }
 
@@ -155,6 +217,7 @@ pub(crate) struct Progress<R: Drop> {
 
 /// Takes the first steps of a run of a loaded program, from clear stacks on: this number of them, or all. Adds what it notes of them, and
 /// returns where the run then is.
+#[tactic(auto, using(crate::proofs::RunningLaws::way_holds, crate::proofs::RunningLaws::way_kept))]
 pub(crate) fn run_part<S: TermSpace, M: PrimMeaning>(
     space: &mut S,
     alloc: Global,
@@ -181,6 +244,7 @@ pub(crate) fn run_part<S: TermSpace, M: PrimMeaning>(
     ensures ended { IfOk result (λ p. 3 * budget + 1 ≤ count → HasEnded p.next) }
     ensures charged { IfOk result (λ _. IsCharged (length code.now.instrs) budget
         (length notes.old.rules.items) notes.new.rules.items stacks.new.left) }
+    ensures room { IfOk result (λ _. HaveSameRoom notes.old notes.new) }
     ensures holds { IfOk result (λ p. Holds S.space space.new
         (state_of p.next p.position stacks.new)) }
     ensures kept { (r : S.Ref) → IsTrue (S.space.stands space.old r) →
@@ -200,12 +264,14 @@ pub(crate) fn run_part<S: TermSpace, M: PrimMeaning>(
         term,
     };
     while goes_on(next) {
+        notes
+            .tracer
+            .note(space, alloc, stacks, code, next, &position)?;
         if steps == count {
             return Ok(Progress { next, position });
         }
-        let address = position.address;
         let before = stacks.left;
-        let depth = stacks.frames.len();
+        let began = Step::at(steps, &position, stacks.frames.len());
         let after = step(
             space,
             alloc,
@@ -218,17 +284,14 @@ pub(crate) fn run_part<S: TermSpace, M: PrimMeaning>(
             &mut scratch,
         )?;
         let charged = before.saturating_sub(stacks.left);
-        let effect = effect_of(code, address, next, after);
-        notes.add(Step {
-            address,
-            steps,
-            depth,
-            charged,
-            effect,
-        });
+        let effect = effect_of(code, began.address, next, after);
+        notes.add(began, charged, effect);
         next = after;
         steps += 1;
     }
+    notes
+        .tracer
+        .note(space, alloc, stacks, code, next, &position)?;
     Ok(Progress { next, position })
 }
 
@@ -245,6 +308,7 @@ fn effect_of(code: &Code, address: usize, before: Next, after: Next) -> Effect {
             Some(Instr::EndDefinition | Instr::EndArgument) => Effect::Returned,
             _ => Effect::Other,
         },
+        Next::Spent | Next::Oversize => Effect::Ended,
         _ => Effect::Other,
     }
 }

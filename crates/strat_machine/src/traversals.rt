@@ -1,5 +1,5 @@
 //! Traversals: the parts of a term one after another, and the whole made of what they have become.
-ghost use Rattle.std.specs.Prelude.{◌≡◌, ◌≤◌, ◌+◌, ℕ, suc, IfOk, IsTrue, true, false, [], ◌∷◌, ◌++◌, length, map, take, drop, reverse};
+ghost use Rattle.std.specs.Prelude.{◌≡◌, ◌≤◌, ◌+◌, ℕ, suc, IfOk, OnOk, IsTrue, true, false, [], ◌∷◌, ◌++◌, length, map, take, drop, reverse};
 ghost use Rattle.term_model.specs.Flat.{Meaning};
 ghost use Rattle.term_model.specs.Space.{Keeps};
 ghost use Rattle.term_model.specs.TermParts.{parts_of};
@@ -9,10 +9,12 @@ ghost use Rattle.strat_steps.specs.References.{AllRefs, record_tree};
 ghost use Rattle.strat_machine.specs.CompactRecords.{HasNoAll};
 ghost use Rattle.strat_machine.specs.RecordStack.{records_of, records_in};
 ghost use Rattle.strat_machine.specs.Stacks.{Performs, IsSafe, state_of};
-ghost use Rattle.strat_machine.specs.Traversing.{RebuildsTo, GoesOnAll, GoesOnOne, GoesOnSome, HasParts, HasTried};
+ghost use Rattle.strat_machine.specs.Opened.{AllOpened};
+ghost use Rattle.strat_machine.specs.Traversing.{RebuildsTo, GoesOnAll, GoesOnSome, HasParts, HasTried, StaysOpened, TakesPortion, without_left};
+ghost use Rattle.strat_machine.specs.declared.stacks.Next.TheVariants.{Running};
 ghost use Rattle.strat_steps.specs.Counted.{AllCounted};
 
-use crate::portions::{open_parts, take_part};
+use crate::portions::{TakenPart, is_at_end, open_parts, take_part};
 use crate::records::{Record, Traversed};
 use crate::stacks::{Next, Position, Stacks};
 use crate::tries::{try_one, try_some};
@@ -34,32 +36,65 @@ pub(crate) fn traverse_parts<S: TermSpace>(
     ensures step { IfOk result (λ next. (M : Meaning) (n i : ℕ) → position.old.address ≡ suc i →
         Performs S.space M (traverse n (traversal_of traversal) next_address) i position.old
         space.old stacks.old space.new next position.new stacks.new) }
+    ensures stays { IfOk result (λ next. StaysOpened S.space (records_of stacks.old.records)
+        space.new next position.new stacks.new) }
 {
-    let left = open_parts(space, &mut stacks.records, &position.term)?;
-    if left == 0 {
-        match traversal {
-            Traversal::One => return Ok(Next::Failing),
-            Traversal::Some => return Ok(Next::Failing),
-            Traversal::All => position.address = next_address,
-        }
+    let Some(taken) = open_parts(space, &mut stacks.records, &position.term)? else {
+        let Traversal::All = traversal else {
+            return Ok(Next::Failing);
+        };
+        position.address = next_address;
         return Ok(Next::Running);
-    }
+    };
+    begin_parts(space, stacks, traversal, next_address, taken, position)?;
+    Ok(Next::Running)
+}
+
+/// Goes on with the first part of a term, which was taken, with the record of a traversal of this kind.
+fn begin_parts<S: TermSpace>(
+    space: &S,
+    stacks: &mut Stacks<S::Ref, S::Mark>,
+    traversal: Traversal,
+    next_address: usize,
+    taken: TakenPart<S::Ref>,
+    position: &mut Position<S::Ref>,
+) -> Result<(), AllocError>
+    requires stands { IsTrue (S.space.stands space.now position.old.term) }
+    requires taken { TakesPortion S.space space.now position.old.term 0
+        (drop taken.left stacks.old.records.left) taken.part taken.left stacks.old.records.left }
+    ensures step { OnOk result ((M : Meaning) (n i : ℕ) → position.old.address ≡ suc i →
+        Performs S.space M (traverse n (traversal_of traversal) next_address) i position.old
+        space.now (without_left taken.left stacks.old) space.now Running position.new stacks.new) }
+    ensures stays { OnOk result (StaysOpened S.space
+        (records_of (without_left taken.left stacks.old).records)
+        space.now Running position.new stacks.new) }
+{
     let traversed = Traversed {
         body: position.address,
         next_address,
         whole: space.dup(&position.term)?,
         done: 0,
-        left,
+        left: taken.left,
     };
     match traversal {
-        Traversal::All => next_of_all(space, alloc, stacks, traversed, position),
-        Traversal::One => next_of_one(space, stacks, traversed, position),
-        Traversal::Some => next_of_some(space, alloc, stacks, traversed, false, position),
+        Traversal::All => {
+            position.term = taken.part;
+            stacks.records.records.push_all(traversed)?;
+            Ok(())
+        }
+        Traversal::One => {
+            try_one(space, stacks, traversed, taken.part, position)?;
+            Ok(())
+        }
+        Traversal::Some => {
+            try_some(space, stacks, traversed, taken.part, false, position)?;
+            Ok(())
+        }
     }
 }
 
 /// Goes on with the next part of all(s), whose record is off, or makes the whole.
-#[inline(always)]
+#[inline(never)]
 fn next_of_all<S: TermSpace>(
     space: &mut S,
     alloc: Global,
@@ -80,27 +115,6 @@ fn next_of_all<S: TermSpace>(
     position.address = others.body;
     position.term = taken.part;
     stacks.records.records.push_all(others)?;
-    Ok(Next::Running)
-}
-
-/// Goes on with the next part of one(s), whose record is off, or fails.
-fn next_of_one<S: TermSpace>(
-    space: &S,
-    stacks: &mut Stacks<S::Ref, S::Mark>,
-    traversed: Traversed<S::Ref>,
-    position: &mut Position<S::Ref>,
-) -> Result<Next, AllocError>
-    requires { HasParts S.space space.now stacks.old.records traversed }
-    ensures { IfOk result (λ next. GoesOnOne S.space space.now stacks.old traversed
-        (take traversed.done stacks.old.records.done) position.old.frame
-        next position.new stacks.new) }
-{
-    let Some(taken) = take_part(space, &mut stacks.records, &traversed, 0)? else {
-        stacks.records.cut(traversed.done, traversed.left);
-        return Ok(Next::Failing);
-    };
-    let others = traversed.with_left(taken.left);
-    try_one(space, stacks, others, taken.part, position)?;
     Ok(Next::Running)
 }
 
@@ -175,10 +189,13 @@ pub(crate) fn end_part<S: TermSpace>(
     requires safe { IsSafe S.space space.old stacks.old (records_of stacks.old.records) }
     requires counted { AllCounted (map (record_tree (S.space.term_of space.old))
         (records_of stacks.old.records)) }
+    requires opened { AllOpened S.space space.old (records_of stacks.old.records) }
     ensures keeps { Keeps S.space space.old space.new }
     ensures step { IfOk result (λ next. (M : Meaning) (i : ℕ) →
         Performs S.space M part_done i position.old space.old stacks.old space.new next position.new
         stacks.new) }
+    ensures stays { IfOk result (λ next. StaysOpened S.space (records_of stacks.old.records)
+        space.new next position.new stacks.new) }
 {
     if stacks.records.records.is_all() {
         return end_part_of_all(space, alloc, stacks, position);
@@ -198,10 +215,13 @@ fn end_tried_part<S: TermSpace>(
     requires counted { AllCounted (map (record_tree (S.space.term_of space.old))
         (records_of stacks.old.records)) }
     requires all { HasNoAll stacks.old.records.records }
+    requires opened { AllOpened S.space space.old (records_of stacks.old.records) }
     ensures keeps { Keeps S.space space.old space.new }
     ensures step { IfOk result (λ next. (M : Meaning) (i : ℕ) →
         Performs S.space M part_done i position.old space.old stacks.old space.new next position.new
         stacks.new) }
+    ensures stays { IfOk result (λ next. StaysOpened S.space (records_of stacks.old.records)
+        space.new next position.new stacks.new) }
 {
     let Some(record) = stacks.records.records.pop() else {
         return Ok(Next::Stuck);
@@ -241,10 +261,13 @@ fn end_part_of_all<S: TermSpace>(
     requires counted { AllCounted (map (record_tree (S.space.term_of space.old))
         (records_of stacks.old.records)) }
     requires all { HasNoAll stacks.old.records.records → stacks.old.records.records ≡ [] }
+    requires opened { AllOpened S.space space.old (records_of stacks.old.records) }
     ensures keeps { Keeps S.space space.old space.new }
     ensures step { IfOk result (λ next. (M : Meaning) (i : ℕ) →
         Performs S.space M part_done i position.old space.old stacks.old space.new next position.new
         stacks.new) }
+    ensures stays { IfOk result (λ next. StaysOpened S.space (records_of stacks.old.records)
+        space.new next position.new stacks.new) }
 {
     let records = &mut stacks.records;
     if let Some((body, part)) = records.records.advance_all(&mut records.left) {
@@ -277,6 +300,9 @@ fn end_part_off<S: TermSpace>(
     let done = space.dup(&position.term)?;
     stacks.records.done.push(done)?;
     let more = traversed.one_more()?;
+    if is_at_end(&more) {
+        return rebuild_whole(space, alloc, stacks, more, position);
+    }
     next_of_all(space, alloc, stacks, more, position)
 }
 

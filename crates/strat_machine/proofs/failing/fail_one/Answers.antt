@@ -1,4 +1,5 @@
-use Rattle.std.proofs.Common.{◌≡◌, suc, sym}
+use Rattle.std.proofs.Common.{◌≡◌, suc, sym, arith}
+use Rattle.strat_machine.proofs.OpenedLaws.{one_back}
 use Rattle.strat_machine.proofs.FailLaws.{one_stands, step_to, other_is, one_ends, one_goes_on}
 use Rattle.strat_machine.proofs.PortionLaws.{next_none, next_taken}
 use Rattle.strat_machine.proofs.failing.fail_one.Goals as goal
@@ -25,4 +26,8 @@ returns-clause-step g c = λ code M.
 
 pub try_one-requires : goal.try_one-requires
 try_one-requires g c =
-    one_stands c.back_to.ensures c.requires (next_taken _ (rw c.in-Some.is at c.in_ok-taken.ensures.part)).next
+    one_stands c.back_to.ensures c.requires.safe (next_taken _ (rw c.in-Some.is at c.in_ok-taken.ensures.part)).next
+
+pub take_part-requires-clause-enough : goal.take_part-requires-clause-enough
+take_part-requires-clause-enough g c =
+    let enough = one_back c.back_to.ensures c.requires.safe c.requires.opened.0 in omega (arith, enough)

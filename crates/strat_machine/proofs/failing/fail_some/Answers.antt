@@ -1,4 +1,5 @@
-use Rattle.std.proofs.Common.{◌≡◌, suc, sym}
+use Rattle.std.proofs.Common.{◌≡◌, suc, sym, arith}
+use Rattle.strat_machine.proofs.OpenedLaws.{some_back}
 use Rattle.strat_machine.proofs.FailLaws.{some_stands, step_to, other_is, some_ends, some_last, some_goes_on}
 use Rattle.strat_machine.proofs.PortionLaws.{next_none, next_taken}
 use Rattle.strat_machine.proofs.failing.fail_some.Goals as goal
@@ -32,4 +33,8 @@ returns-clause-step g c = λ code M.
 
 pub try_some-requires : goal.try_some-requires
 try_some-requires g c =
-    some_stands c.back_to.ensures c.requires (next_taken _ (rw c.in-Some.is at c.in_ok-taken.ensures.part)).next
+    some_stands c.back_to.ensures c.requires.safe (next_taken _ (rw c.in-Some.is at c.in_ok-taken.ensures.part)).next
+
+pub take_part-requires-clause-enough : goal.take_part-requires-clause-enough
+take_part-requires-clause-enough g c =
+    let enough = some_back c.back_to.ensures c.requires.safe c.requires.opened.0 in omega (arith, enough)

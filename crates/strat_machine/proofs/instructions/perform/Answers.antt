@@ -4,8 +4,9 @@ use Rattle.std.proofs.lemmas.Result.{IfOk-weaker}
 use Rattle.prim_registry.specs.Entries.{entries_of}
 use Rattle.prim_registry.specs.Registered.{meaning_of}
 use Rattle.strat_steps.specs.ReferenceSteps.{counts, gives_up_so, jumps, finishes}
+use Rattle.strat_machine.proofs.OpenedLaws.{both_ok}
 use Rattle.strat_machine.proofs.StepLaws.{does_to, tries_so}
-use Rattle.strat_machine.proofs.ActionLaws.{cannot_step, steps_by, is_action, as_instr, as_meant, next_run, match_is, build_is, select_is, call_is, primitive_is, takes_as_many, position_as, known_as, tables_known}
+use Rattle.strat_machine.proofs.ActionLaws.{cannot_step, steps_by, steps_on, is_action, as_instr, as_meant, next_run, match_is, build_is, select_is, call_is, primitive_is, takes_as_many, position_as, known_as, tables_known}
 use Rattle.strat_machine.proofs.SelectingLaws.{selects_as, case_tried}
 use Rattle.strat_machine.proofs.instructions.perform.Goals.{in-Try-action, in-Select+in-Case}
 use Rattle.strat_machine.proofs.instructions.perform.Goals as goal
@@ -66,14 +67,14 @@ returns-in-Count-clause-step g c =
     steps_by g.S.TermSpace.space (meaning_of g.M.PrimMeaning.answer c.args.registry.now)
     c.requires.loaded c.args.position.now c.args.stacks.now _ c.requires.instrs c.index-instrs-position.result
     c.requires.in_range c.index-instrs-position.is _ c.in-Count.is c.if-stacks-instr.false
-    (λ v is. as_instr c.args.code.now.tables _ is.1 (does_to counts (next_run c.args.position.now.address)))
+    (λ v is. as_instr c.args.code.now.tables _ is.1 (does_to counts (next_run c.args.position.now.address))) tt
 
 pub returns-in-GiveUp-clause-step : goal.returns-in-GiveUp-clause-step
 returns-in-GiveUp-clause-step g c =
     steps_by g.S.TermSpace.space (meaning_of g.M.PrimMeaning.answer c.args.registry.now)
     c.requires.loaded c.args.position.now c.args.stacks.now _ c.requires.instrs c.index-instrs-position.result
     c.requires.in_range c.index-instrs-position.is _ c.in-GiveUp.is c.if-stacks-instr.false
-    (λ v is. as_instr c.args.code.now.tables _ is.1 gives_up_so)
+    (λ v is. as_instr c.args.code.now.tables _ is.1 gives_up_so) tt
 
 pub returns-in-Match-clause-step : goal.returns-in-Match-clause-step
 returns-in-Match-clause-step g c =
@@ -82,7 +83,7 @@ returns-in-Match-clause-step g c =
     c.requires.loaded c.args.position.now c.args.stacks.now _ c.requires.instrs c.index-instrs-position.result
     c.requires.in_range c.index-instrs-position.is _ c.in-Match.is c.if-stacks-instr.false
     (λ v is. as_meant (match_is c.args.code.now.tables is.2 is.3)
-    (h _ is.0 c.args.position.now.address (add-one c.args.position.now.address)))) c.perform_match.ensures.step
+    (h _ is.0 c.args.position.now.address (add-one c.args.position.now.address))) tt) c.perform_match.ensures.step
 
 pub returns-in-Build-clause-step : goal.returns-in-Build-clause-step
 returns-in-Build-clause-step g c =
@@ -91,7 +92,7 @@ returns-in-Build-clause-step g c =
     c.requires.loaded c.args.position.now c.args.stacks.now _ c.requires.instrs c.index-instrs-position.result
     c.requires.in_range c.index-instrs-position.is _ c.in-Build.is c.if-stacks-instr.false
     (λ v is. as_meant (build_is c.args.code.now.tables is.2 is.3)
-    (h _ is.0 c.args.position.now.address (add-one c.args.position.now.address)))) c.perform_build.ensures.step
+    (h _ is.0 c.args.position.now.address (add-one c.args.position.now.address))) tt) c.perform_build.ensures.step
 
 pub returns-in_ok-enter_scope-in-Enter-clause-step : goal.returns-in_ok-enter_scope-in-Enter-clause-step
 returns-in_ok-enter_scope-in-Enter-clause-step g c =
@@ -100,7 +101,7 @@ returns-in_ok-enter_scope-in-Enter-clause-step g c =
     c.requires.in_range c.index-instrs-position.is _ c.in-Enter.is c.if-stacks-instr.false
     (λ v is. as_instr c.args.code.now.tables _ is.1
     (c.in_ok-enter_scope-in-Enter.ensures _ c.args.space.now is.0 c.args.position.now.address
-    (add-one c.args.position.now.address)))
+    (add-one c.args.position.now.address))) tt
 
 pub returns-in-Leave-clause-step : goal.returns-in-Leave-clause-step
 returns-in-Leave-clause-step g c =
@@ -108,7 +109,7 @@ returns-in-Leave-clause-step g c =
     c.requires.loaded c.args.position.now c.args.stacks.now _ c.requires.instrs c.index-instrs-position.result
     c.requires.in_range c.index-instrs-position.is _ c.in-Leave.is c.if-stacks-instr.false
     (λ v is. as_instr c.args.code.now.tables _ is
-    (c.leave_scope.ensures _ c.args.space.now c.args.position.now.address (add-one c.args.position.now.address)))
+    (c.leave_scope.ensures _ c.args.space.now c.args.position.now.address (add-one c.args.position.now.address))) tt
 
 pub returns-in_ok-extend_scope-in-Extend-clause-step : goal.returns-in_ok-extend_scope-in-Extend-clause-step
 returns-in_ok-extend_scope-in-Extend-clause-step g c =
@@ -117,7 +118,7 @@ returns-in_ok-extend_scope-in-Extend-clause-step g c =
     c.requires.in_range c.index-instrs-position.is _ c.in-Extend.is c.if-stacks-instr.false
     (λ v is. as_instr c.args.code.now.tables _ is.1
     (c.in_ok-extend_scope-in-Extend.ensures _ c.args.space.now is.0 c.args.position.now.address
-    (add-one c.args.position.now.address)))
+    (add-one c.args.position.now.address))) tt
 
 pub returns-in-Shrink-clause-step : goal.returns-in-Shrink-clause-step
 returns-in-Shrink-clause-step g c =
@@ -125,7 +126,7 @@ returns-in-Shrink-clause-step g c =
     c.requires.loaded c.args.position.now c.args.stacks.now _ c.requires.instrs c.index-instrs-position.result
     c.requires.in_range c.index-instrs-position.is _ c.in-Shrink.is c.if-stacks-instr.false
     (λ v is. as_instr c.args.code.now.tables _ is
-    (c.shrink_scope.ensures _ c.args.space.now c.args.position.now.address (add-one c.args.position.now.address)))
+    (c.shrink_scope.ensures _ c.args.space.now c.args.position.now.address (add-one c.args.position.now.address))) tt
 
 pub returns-in-Commit-clause-step : goal.returns-in-Commit-clause-step
 returns-in-Commit-clause-step g c =
@@ -133,31 +134,35 @@ returns-in-Commit-clause-step g c =
     c.requires.loaded c.args.position.now c.args.stacks.now _ c.requires.instrs c.index-instrs-position.result
     c.requires.in_range c.index-instrs-position.is _ c.in-Commit.is c.if-stacks-instr.false
     (λ v is. as_instr c.args.code.now.tables _ is.1
-    (c.commit_choice.ensures _ c.args.space.now is.0 c.args.position.now.address))
+    (c.commit_choice.ensures _ c.args.space.now is.0 c.args.position.now.address)) tt
 
 pub returns-in-Jump-clause-step : goal.returns-in-Jump-clause-step
 returns-in-Jump-clause-step g c =
     steps_by g.S.TermSpace.space (meaning_of g.M.PrimMeaning.answer c.args.registry.now)
     c.requires.loaded c.args.position.now c.args.stacks.now _ c.requires.instrs c.index-instrs-position.result
     c.requires.in_range c.index-instrs-position.is _ c.in-Jump.is c.if-stacks-instr.false
-    (λ v is. as_instr c.args.code.now.tables _ is jumps)
+    (λ v is. as_instr c.args.code.now.tables _ is jumps) tt
 
 pub returns-in-Traverse-clause-step : goal.returns-in-Traverse-clause-step
 returns-in-Traverse-clause-step g c =
     IfOk-weaker c.traverse_parts.result _ _
-    (λ next h. steps_by g.S.TermSpace.space (meaning_of g.M.PrimMeaning.answer c.args.registry.now)
+    (λ next h. steps_on g.S.TermSpace.space (meaning_of g.M.PrimMeaning.answer c.args.registry.now)
     c.requires.loaded c.args.position.now c.args.stacks.now _ c.requires.instrs c.index-instrs-position.result
     c.requires.in_range c.index-instrs-position.is _ c.in-Traverse.is c.if-stacks-instr.false
     (λ v is. as_instr c.args.code.now.tables _ is.1
-    (h _ is.0 c.args.position.now.address (add-one c.args.position.now.address)))) c.traverse_parts.ensures.step
+    (h.0 _ is.0 c.args.position.now.address (add-one c.args.position.now.address)))
+    c.traverse_parts.ensures.keeps h.1.all)
+    (both_ok c.traverse_parts.result _ _ c.traverse_parts.ensures.step c.traverse_parts.ensures.stays)
 
 pub returns-in-PartDone-clause-step : goal.returns-in-PartDone-clause-step
 returns-in-PartDone-clause-step g c =
     IfOk-weaker c.end_part.result _ _
-    (λ next h. steps_by g.S.TermSpace.space (meaning_of g.M.PrimMeaning.answer c.args.registry.now)
+    (λ next h. steps_on g.S.TermSpace.space (meaning_of g.M.PrimMeaning.answer c.args.registry.now)
     c.requires.loaded c.args.position.now c.args.stacks.now _ c.requires.instrs c.index-instrs-position.result
     c.requires.in_range c.index-instrs-position.is _ c.in-PartDone.is c.if-stacks-instr.false
-    (λ v is. as_instr c.args.code.now.tables _ is (h _ c.args.position.now.address))) c.end_part.ensures.step
+    (λ v is. as_instr c.args.code.now.tables _ is (h.0 _ c.args.position.now.address))
+    c.end_part.ensures.keeps h.1.all)
+    (both_ok c.end_part.result _ _ c.end_part.ensures.step c.end_part.ensures.stays)
 
 pub returns-in-CallDefinition-clause-step : goal.returns-in-CallDefinition-clause-step
 returns-in-CallDefinition-clause-step g c =
@@ -166,7 +171,7 @@ returns-in-CallDefinition-clause-step g c =
     c.requires.loaded c.args.position.now c.args.stacks.now _ c.requires.instrs c.index-instrs-position.result
     c.requires.in_range c.index-instrs-position.is _ c.in-CallDefinition.is c.if-stacks-instr.false
     (λ v is. as_meant (call_is c.args.code.now.tables is.3 (c.deref.ensures.value ∙
-    is.4) c.deref-in-CallDefinition.ensures.value is.5) (h _ is.0 c.args.position.now.address)))
+    is.4) c.deref-in-CallDefinition.ensures.value is.5) (h _ is.0 c.args.position.now.address)) tt)
     c.perform_call.ensures.step
 
 pub returns-in_ok-call_parameter-in-CallClosure-clause-step :
@@ -177,7 +182,7 @@ returns-in_ok-call_parameter-in-CallClosure-clause-step g c =
     c.requires.in_range c.index-instrs-position.is _ c.in-CallClosure.is c.if-stacks-instr.false
     (λ v is. as_instr c.args.code.now.tables _ is.1
     (c.in_ok-call_parameter-in-CallClosure.ensures _ c.args.space.now is.0 c.args.position.now.address
-    (add-one c.args.position.now.address)))
+    (add-one c.args.position.now.address))) tt
 
 pub returns-in-EndDefinition-clause-step : goal.returns-in-EndDefinition-clause-step
 returns-in-EndDefinition-clause-step g c =
@@ -185,7 +190,7 @@ returns-in-EndDefinition-clause-step g c =
     c.requires.loaded c.args.position.now c.args.stacks.now _ c.requires.instrs c.index-instrs-position.result
     c.requires.in_range c.index-instrs-position.is _ c.in-EndDefinition.is c.if-stacks-instr.false
     (λ v is. as_instr c.args.code.now.tables _ is
-    (c.leave_definition.ensures _ c.args.space.now c.args.position.now.address))
+    (c.leave_definition.ensures _ c.args.space.now c.args.position.now.address)) tt
 
 pub returns-in-EndArgument-clause-step : goal.returns-in-EndArgument-clause-step
 returns-in-EndArgument-clause-step g c =
@@ -193,7 +198,7 @@ returns-in-EndArgument-clause-step g c =
     c.requires.loaded c.args.position.now c.args.stacks.now _ c.requires.instrs c.index-instrs-position.result
     c.requires.in_range c.index-instrs-position.is _ c.in-EndArgument.is c.if-stacks-instr.false
     (λ v is. as_instr c.args.code.now.tables _ is
-    (c.leave_argument.ensures _ c.args.space.now c.args.position.now.address))
+    (c.leave_argument.ensures _ c.args.space.now c.args.position.now.address)) tt
 
 pub returns-in-ApplyPrimitive-clause-step : goal.returns-in-ApplyPrimitive-clause-step
 returns-in-ApplyPrimitive-clause-step g c =
@@ -205,14 +210,14 @@ returns-in-ApplyPrimitive-clause-step g c =
     (h is.1.items is.0 c.args.position.now.address
     (position_as (entries_of c.args.registry.now)
     c.in-ApplyPrimitive.index is.1.items (ap length (sym c.deref-in-ApplyPrimitive.ensures.value)) is.4)
-    (add-one c.args.position.now.address)))) c.perform_primitive.ensures.step
+    (add-one c.args.position.now.address))) tt) c.perform_primitive.ensures.step
 
 pub returns-in-Finish-clause-step : goal.returns-in-Finish-clause-step
 returns-in-Finish-clause-step g c =
     steps_by g.S.TermSpace.space (meaning_of g.M.PrimMeaning.answer c.args.registry.now)
     c.requires.loaded c.args.position.now c.args.stacks.now _ c.requires.instrs c.index-instrs-position.result
     c.requires.in_range c.index-instrs-position.is _ c.in-Finish.is c.if-stacks-instr.false
-    (λ v is. as_instr c.args.code.now.tables _ is finishes)
+    (λ v is. as_instr c.args.code.now.tables _ is finishes) tt
 
 pub returns-in-NoCase-clause-step : goal.returns-in-NoCase-clause-step
 returns-in-NoCase-clause-step g c =
@@ -226,7 +231,7 @@ returns-in-NoCase-clause-step g c =
     (selects_as g.S.TermSpace.space _ c.args.space.now _ c.args.position.now.address c.args.position.now
     (record c.args.stacks.now { left = c.args.stacks.now.left - c.index-instrs-position.result.nodes })
     c.perform_select.new.position c.perform_select.new.stacks c.in-NoCase.is
-    (c.perform_select.ensures.selects _ is.0 c.args.position.now.address)))
+    (c.perform_select.ensures.selects _ is.0 c.args.position.now.address))) tt
 
 pub returns-in-Spent-clause-step : goal.returns-in-Spent-clause-step
 returns-in-Spent-clause-step g c =
@@ -240,7 +245,7 @@ returns-in-Spent-clause-step g c =
     (selects_as g.S.TermSpace.space _ c.args.space.now _ c.args.position.now.address c.args.position.now
     (record c.args.stacks.now { left = c.args.stacks.now.left - c.index-instrs-position.result.nodes })
     c.perform_select.new.position c.perform_select.new.stacks c.in-Spent.is
-    (c.perform_select.ensures.selects _ is.0 c.args.position.now.address)))
+    (c.perform_select.ensures.selects _ is.0 c.args.position.now.address))) tt
 
 pub put_choice-requires : goal.put_choice-requires
 put_choice-requires g c =
@@ -262,7 +267,7 @@ returns-in_ok-put_choice-in-Try-clause-step g c =
           (record c.args.stacks.now { left = c.args.stacks.now.left - c.index-instrs-position.result.nodes })
           c.put_choice.new.stacks b.position-is b.stacks-is b.otherwise-is
           (λ m x. tries_so _ is.0 c.args.position.now.address (add-one c.args.position.now.address) x)
-          c.in_ok-put_choice-in-Try.ensures))
+          c.in_ok-put_choice-in-Try.ensures)) tt
       | in-Select+in-Case b ↦ steps_by g.S.TermSpace.space (meaning_of g.M.PrimMeaning.answer c.args.registry.now)
           c.requires.loaded c.args.position.now c.args.stacks.now _ c.requires.instrs c.index-instrs-position.result
           c.requires.in_range c.index-instrs-position.is _ b.in-Select.is c.if-stacks-instr.false
@@ -276,5 +281,5 @@ returns-in_ok-put_choice-in-Try-clause-step g c =
           (selects_as g.S.TermSpace.space _ c.args.space.now _ c.args.position.now.address c.args.position.now
           (record c.args.stacks.now { left = c.args.stacks.now.left - c.index-instrs-position.result.nodes })
           b.perform_select.new.position b.perform_select.new.stacks b.in-Case.is
-          (b.perform_select.ensures.selects _ is.0 c.args.position.now.address)) c.in_ok-put_choice-in-Try.ensures))
+          (b.perform_select.ensures.selects _ is.0 c.args.position.now.address)) c.in_ok-put_choice-in-Try.ensures)) tt
     ]

@@ -2,7 +2,7 @@ use Rattle.std.proofs.Common.{sym, subst}
 use Rattle.prim_registry.specs.Registered.{meaning_of}
 use Rattle.strat_code.specs.CodeOf.{code_of}
 use Rattle.strat_steps.specs.Marks.{Lasts}
-use Rattle.strat_steps.specs.ReferenceSteps.{StepRef}
+use Rattle.strat_machine.specs.Opened.{StepOpened}
 use Rattle.strat_machine.specs.Stacks.{state_of}
 use Rattle.strat_machine.specs.declared.stacks.Next.TheVariants.{Stuck}
 use Rattle.strat_machine.proofs.ActionLaws.{steps_out}
@@ -16,8 +16,11 @@ returns-then-position-instrs-clause-step g c =
     let w = c.args.space.now in
     let p = c.args.position.now in
     let m = c.args.stacks.now in
-    subst (λ next. StepRef s code M w (state_of next p m) w (state_of Stuck p m)) (sym c.in-Running.is)
-    (steps_out s M c.requires.loaded p m _ c.as_slice-instrs.ensures.value c.if-position-instrs.true)
+    subst (λ next. StepOpened s code M w (state_of next p m) w (state_of Stuck p m)) (sym c.in-Running.is)
+    (record {
+      step = steps_out s M c.requires.loaded p m _ c.as_slice-instrs.ensures.value c.if-position-instrs.true;
+      opened = λ holds o. tt;
+    })
 
 pub returns-else-position-instrs-clause-lasting : goal.returns-else-position-instrs-clause-lasting
 returns-else-position-instrs-clause-lasting g c = λ r lasts.

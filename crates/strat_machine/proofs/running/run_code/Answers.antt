@@ -33,8 +33,14 @@ perform-requires-clause-in_range g c =
     in_code c.instrs.ensures.stands c.requires.stands loaded c.loop-next-2.position c.loop-next-2.stacks _
     c.as_slice-instrs.ensures.value (way_at c.in-Running.is c.loop-next-2.invariant.0)
 
-pub fail-requires : goal.fail-requires
-fail-requires g c = way_holds (way_at c.in-Failing.is c.loop-next-2.invariant.0) c.requires.stands
+pub perform-requires-clause-opened : goal.perform-requires-clause-opened
+perform-requires-clause-opened g c = (way_at c.in-Running.is c.loop-next-2.invariant.0).opened
+
+pub fail-requires-clause-safe : goal.fail-requires-clause-safe
+fail-requires-clause-safe g c = way_holds (way_at c.in-Failing.is c.loop-next-2.invariant.0) c.requires.stands
+
+pub fail-requires-clause-opened : goal.fail-requires-clause-opened
+fail-requires-clause-opened g c = (way_at c.in-Failing.is c.loop-next-2.invariant.0).opened
 
 pub overflow_add-steps : goal.overflow_add-steps
 overflow_add-steps g c =
@@ -76,13 +82,14 @@ pub loop-next-2-preserved : goal.loop-next-2-preserved
 loop-next-2-preserved g c =
     let keeps = c.in_ok-next.ensures.keeps in
     let more = c.loop-next-2.invariant.1 in (
-      way_on (way_at c.in-Running.is c.loop-next-2.invariant.0)
+      way_on (way_at c.in-Running.is c.loop-next-2.invariant.0) c.requires.stands
           c.in_ok-next.ensures.step (record { known = keeps.known; symbols = keeps.symbols }),
       omega arith,
     )
 
 pub loop-next-preserved : goal.loop-next-preserved
-loop-next-preserved g c = way_on (way_at c.in-Failing.is c.loop-next-2.invariant.0) (c.in_ok-next-2.ensures.step _ _)
+loop-next-preserved g c = way_on (way_at c.in-Failing.is c.loop-next-2.invariant.0) c.requires.stands
+    (c.in_ok-next-2.ensures.step _ _)
     c.in_ok-next-2.ensures.names
 
 pub outcome_of-outcome-requires : goal.outcome_of-outcome-requires

@@ -1,38 +1,48 @@
-use Rattle.std.proofs.Common.{ap}
-use Rattle.std.proofs.lemmas.Result.{IfOk-weaker}
-use Rattle.strat_code.specs.CodeOf.{traversal_of}
-use Rattle.strat_machine.proofs.PartLaws.{all_begins, one_begins, some_begins, all_of_leaf, one_of_leaf, some_of_leaf}
+use Rattle.std.proofs.Common.{◌≡◌, drop, ap, subst, sym, ◌∙◌}
+use Rattle.strat_machine.specs.Traversing.{TakesPortion}
+use Rattle.strat_machine.proofs.PartLaws.{leaf_stays, leaf_fails, opened_same, untouched, begun_performs, begun_stays}
 use Rattle.strat_machine.proofs.traversals.traverse_parts.Goals as goal
 
-pub returns-then-left-eq0-clause-step : goal.returns-then-left-eq0-clause-step
-returns-then-left-eq0-clause-step g c =
-    λ M n i at. all_of_leaf _ c.args.stacks.now.records _ c.in_ok-left.ensures c.if-left-eq0.true
-    (ap traversal_of c.in-All.is) c.requires (g.S.TermSpace.fits _ _ c.requires)
+pub returns-in_default-traversal-clause-step : goal.returns-in_default-traversal-clause-step
+returns-in_default-traversal-clause-step g c =
+    let none = rw c.in_default.is at c.in_ok-taken.ensures.part in
+    λ M n i at. leaf_fails _ _ (untouched _ _ c.in_ok-taken.ensures.kept none.kept) none.no_more _
+    c.in_default-traversal.not-All
 
-pub returns-in-One-clause-step : goal.returns-in-One-clause-step
-returns-in-One-clause-step g c =
-    λ M n i at. one_of_leaf _ c.args.stacks.now.records _ c.in_ok-left.ensures c.if-left-eq0.true
-    (ap traversal_of c.in-One.is)
+pub returns-in_default-traversal-clause-stays : goal.returns-in_default-traversal-clause-stays
+returns-in_default-traversal-clause-stays g c =
+    let none = rw c.in_default.is at c.in_ok-taken.ensures.part in
+    record {
+      all = opened_same g.S.TermSpace.space c.args.space.now (untouched _ _ c.in_ok-taken.ensures.kept none.kept);
+    }
 
-pub returns-in-Some-clause-step : goal.returns-in-Some-clause-step
-returns-in-Some-clause-step g c =
-    λ M n i at. some_of_leaf _ c.args.stacks.now.records _ c.in_ok-left.ensures c.if-left-eq0.true
-    (ap traversal_of c.in-Some.is)
+pub returns-in_default-clause-step : goal.returns-in_default-clause-step
+returns-in_default-clause-step g c =
+    let none = rw c.in_default.is at c.in_ok-taken.ensures.part in
+    λ M n i at. leaf_stays _ _ (untouched _ _ c.in_ok-taken.ensures.kept none.kept) none.no_more _
+    c.in-All.is c.requires (g.S.TermSpace.fits _ _ c.requires)
 
-pub returns-in-All-traversal-clause-step : goal.returns-in-All-traversal-clause-step
-returns-in-All-traversal-clause-step g c =
-    IfOk-weaker c.next_of_all.result _ _
-    (λ next h M n i at. all_begins _ _ c.args.stacks.now.records _ c.in_ok-left.ensures at
-    (ap traversal_of c.in-All-traversal.is) (rw c.in_ok-dup.ensures.same at h)) c.next_of_all.ensures.step
+pub returns-in_default-clause-stays : goal.returns-in_default-clause-stays
+returns-in_default-clause-stays g c =
+    let none = rw c.in_default.is at c.in_ok-taken.ensures.part in
+    record {
+      all = opened_same g.S.TermSpace.space c.args.space.now (untouched _ _ c.in_ok-taken.ensures.kept none.kept);
+    }
 
-pub returns-in-One-traversal-clause-step : goal.returns-in-One-traversal-clause-step
-returns-in-One-traversal-clause-step g c =
-    IfOk-weaker c.next_of_one.result _ _
-    (λ next h M n i at. one_begins _ _ c.args.stacks.now.records _ c.in_ok-left.ensures at
-    (ap traversal_of c.in-One-traversal.is) (rw c.in_ok-dup.ensures.same at h)) c.next_of_one.ensures
+pub begin_parts-requires-clause-taken : goal.begin_parts-requires-clause-taken
+begin_parts-requires-clause-taken g c =
+    let taken = rw c.in-Some.is at c.in_ok-taken.ensures.part in
+    subst (λ E. TakesPortion g.S.TermSpace.space c.args.space.now c.args.position.now.term 0 E c.in-Some.taken.part
+    c.in-Some.taken.left c.open_parts.new.records.left) taken.after taken
 
-pub returns-in-Some-traversal-clause-step : goal.returns-in-Some-traversal-clause-step
-returns-in-Some-traversal-clause-step g c =
-    IfOk-weaker c.next_of_some.result _ _
-    (λ next h M n i at. some_begins _ _ c.args.stacks.now.records _ c.in_ok-left.ensures at
-    (ap traversal_of c.in-Some-traversal.is) (rw c.in_ok-dup.ensures.same at h)) c.next_of_some.ensures.step
+pub returns-clause-step : goal.returns-clause-step
+returns-clause-step g c =
+    let taken = rw c.in-Some.is at c.in_ok-taken.ensures.part in
+    λ M n i at. begun_performs c.args.stacks.now.records c.open_parts.new.records c.in-Some.taken.left
+    c.in_ok-taken.ensures.kept taken.after (c.in_ok-begin_parts.ensures.step M n i at)
+
+pub returns-clause-stays : goal.returns-clause-stays
+returns-clause-stays g c =
+    let taken = rw c.in-Some.is at c.in_ok-taken.ensures.part in
+    begun_stays c.args.stacks.now.records c.open_parts.new.records c.in-Some.taken.left
+    c.in_ok-taken.ensures.kept taken.after c.in_ok-begin_parts.ensures.stays
