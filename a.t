@@ -1,0 +1,1 @@
+Module([Assign(Name("x"),BinOp(Constant("v %s",None()),Mod(),Tuple([Name("a")]))),Expr(Call(Name("f"),[Name("a"),Name("c")],[keyword("a",Name("a")),keyword("k",Constant("z",None()))])),Def("g",["a"],[Expr(BinOp(Name("a"),Add(),Name("x")))]),Expr(BinOp(Constant("%s, %s",None()),Mod(),Tuple([Name("x"),Name("y")])))])

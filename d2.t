@@ -1,0 +1,1 @@
+[Let("id",Lam("x",Var("x")),App(Var("id"),Int(3))),Lam("f",Lam("y",App(Var("f"),Var("y")))),Let("k",Lam("a",Lam("b",Var("a"))),App(App(Var("k"),Int(1)),Var("zz"))),Let("id",Lam("x",Var("x")),App(App(Var("id"),Var("id")),Int(3)))]

@@ -1,0 +1,1 @@
+Module([Import([alias("os",None()),alias("sys",None())]),Import([alias("shutil",Some("_shutil"))]),Import([alias("re",None()),alias("json",Some("j"))]),Import([alias("ast",None())]),Def("f",[Call("g"),Call("open"),Call("g")]),Def("h",[Call("g"),Call("open")]),Call("f"),Call("open"),Call("len")])
