@@ -279,7 +279,8 @@ impl<R: Drop, M: Drop> CompactRecords<R, M> {
         Some((body, part))
     }
 
-    /// Takes the newest record off.
+    /// Takes the newest record off. It is inlined, so that the record is not made in memory before its kind is told.
+    #[inline(always)]
     pub(crate) fn pop(&mut self) -> Option<Record<R, M>>
         ensures { MatchOption result (self.old ≡ []) (λ r. self.old ≡ r ∷ self.new) }
     {

@@ -203,7 +203,8 @@ pub(crate) fn end_part<S: TermSpace>(
     end_tried_part(space, alloc, stacks, position)
 }
 
-/// A part has become this, where the newest record is not of all(s).
+/// A part has become this, where the newest record is not of all(s). It is not inlined, so that the loop of the machine stays small.
+#[inline(never)]
 fn end_tried_part<S: TermSpace>(
     space: &mut S,
     alloc: Global,
