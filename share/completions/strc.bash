@@ -13,11 +13,11 @@ _strc() {
         [[ $word == -- ]] && return
     done
     case $previous in
-        --rules | --main) compopt +o default ;; # a value, which is no file
+        --rules | --main | --trace) compopt +o default ;; # a value, which is no file
         --with) ;; # a file
         *)
             if [[ $current == -* ]]; then
-                COMPREPLY=($(compgen -W '--rules --no-limit --main --strict --stats --explain --raw --pretty --with --check -h --help -V --version' -- "$current"))
+                COMPREPLY=($(compgen -W '--rules --no-limit --main --strict --stats --explain --counts --counts-all --profile --trace --failures --raw --pretty --with --check -h --help -V --version' -- "$current"))
             fi
             ;;
     esac

@@ -34,7 +34,8 @@ impl<'a> Key<'a> {
 }
 
 /// Adds the warnings about these alternatives, where definitions call these keys. No definition of a library is reported as never called,
-/// since a library serves other programs, too; nor is any where the definitions have a fault, since a call may then have a misspelled name.
+/// since a library serves other programs, too; nor is one that may be meant to be applied; nor is any where the definitions have a fault,
+/// since a call may then have a misspelled name.
 pub(crate) fn add_group_warnings(
     alloc: Global,
     definitions: &Definitions<'_>,
@@ -46,6 +47,7 @@ pub(crate) fn add_group_warnings(
     sorted.sort_by_key(|alternative| Key::of_head(alternative.head()))?;
     let mut called = calls.to_vec(alloc)?;
     called.sort()?;
+    let used = sections_of_used_rules(alloc, alternatives, &called)?;
     let mut before: Option<Earlier<'_>> = None;
     for alternative in &sorted {
         let key = Key::of_head(alternative.head());
@@ -55,8 +57,9 @@ pub(crate) fn add_group_warnings(
                 Some(earlier.with(alternative))
             }
             _ => {
-                let is_needed = is_needed(definitions, alternative);
-                if !is_needed && called.binary_search(&key).is_err() {
+                let may_be_meant = is_needed(definitions, alternative)
+                    || is_entry_point(alternative, &used);
+                if !may_be_meant && called.binary_search(&key).is_err() {
                     add_uncalled(alloc, alternative, warnings)?;
                 }
                 Some(Earlier::first(alternative))
@@ -97,6 +100,36 @@ fn is_needed(definitions: &Definitions<'_>, first: &Alternative<'_>) -> bool {
     let name = first.head().name.bytes();
     let is_applied = name == definitions.main || name == b"main".as_slice();
     !definitions.is_sound || is_applied || first.offset() < definitions.library
+}
+
+/// Whether the definition with this first alternative may be meant to be applied by its name: it has no parameters, and is not one of the
+/// rules of a section that definitions use.
+fn is_entry_point(first: &Alternative<'_>, sections_of_used_rules: &[usize]) -> bool {
+    let key = Key::of_head(first.head());
+    let has_parameters = key.strategies > 0 || key.terms > 0;
+    !has_parameters
+        && sections_of_used_rules
+            .binary_search(&first.section)
+            .is_err()
+}
+
+/// The numbers of the sections with a rule that has one of these keys, which are sorted; in their order.
+fn sections_of_used_rules(
+    alloc: Global,
+    alternatives: &[Alternative<'_>],
+    called: &[Key<'_>],
+) -> Result<Vec<usize>, AllocError> {
+    let mut sections = Vec::new(alloc);
+    for alternative in alternatives {
+        let DefinitionForm::Rule(rule) = alternative.form else {
+            continue;
+        };
+        let is_noted = sections.last() == Some(&alternative.section);
+        if !is_noted && (&*called).binary_search(&Key::of_head(&rule.head)).is_ok() {
+            sections.push(alternative.section)?;
+        }
+    }
+    Ok(sections)
 }
 
 /// Adds that a definition is never called.

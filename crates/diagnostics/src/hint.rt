@@ -3,6 +3,7 @@
 use crate::advice::Advice;
 use crate::context::Context;
 use crate::explanation::{NamedLine, Position};
+use crate::fault_places::OtherPlace;
 use crate::operations::Operation;
 use crate::shown::Shown;
 use std::fmt;
@@ -45,6 +46,8 @@ pub enum Hint {
         name: Shown,
         has_strategies: bool,
     },
+    /// Another place that the fault is about.
+    Elsewhere(OtherPlace),
     /// What is known of the name.
     OnName(NameHint),
 }
@@ -74,6 +77,13 @@ pub enum NameHint {
         strategies: usize,
         terms: usize,
     },
+    /// A variable has the name, which stands in `<..>` or as another strategy.
+    OfVariable {
+        name: Shown,
+        is_applied: bool,
+    },
+    /// Definitions with these names have no parameters, where one without parameters is needed.
+    WithoutParameters(Shown),
 }
 
 /// The ending of a noun after this number: "s", or nothing after 1.
@@ -87,6 +97,7 @@ impl Hint {
         match self {
             Hint::TakenAsOperand { line, .. } | Hint::JoinedByOperator { line, .. } => Some(*line),
             Hint::NeverClosed { place, .. } => Some(place.line),
+            Hint::Elsewhere(place) => Some(place.line),
             _ => None,
         }
     }
@@ -160,8 +171,23 @@ impl fmt::Display for HintOnLine<'_> {
                 let strategies = if *has_strategies { ".. " } else { "" };
                 write!(f, "terms come after a bar: {name}({strategies}| ..)")
             }
+            Hint::Elsewhere(place) => write!(f, "{place} on {line}"),
             Hint::OnName(hint) => write!(f, "{hint}"),
         }
+    }
+}
+
+/// Writes what to write in place of the name of a variable that is called.
+fn write_variable<W: fmt::Write>(
+    name: &Shown,
+    is_applied: bool,
+    f: &mut fmt::Formatter<W>,
+) -> fmt::Result {
+    write!(f, "'{name}' is a variable here: ")?;
+    if is_applied {
+        write!(f, "write {name} without < >")
+    } else {
+        write!(f, "to build its value write !{name}")
     }
 }
 
@@ -194,6 +220,13 @@ impl fmt::Display for NameHint {
                 f,
                 "{name} is defined with {strategies} strategy and {terms} term parameters"
             ),
+            NameHint::OfVariable { name, is_applied } => write_variable(name, *is_applied, f),
+            NameHint::WithoutParameters(names) => {
+                write!(
+                    f,
+                    "defined without parameters: {names}; choose one with --main"
+                )
+            }
         }
     }
 }

@@ -88,6 +88,11 @@ impl<'a> Listing<'a> {
         }
     }
 
+    /// Returns how many term parameters the definition has whose head has this index.
+    pub fn terms_of_head(&self, head: usize) -> usize {
+        self.heads.get(head).map_or(0, |head| head.terms)
+    }
+
     /// Whether two definitions have the same name, whatever their numbers of parameters are.
     pub fn have_one_name(&self, one: usize, other: usize) -> bool {
         one == other || self.name_of(one) == self.name_of(other)

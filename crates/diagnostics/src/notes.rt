@@ -1,14 +1,18 @@
 //! What a person wants to know of a refusal and of a run. No contract of the transformation speaks of it.
+ghost use Rattle.std.specs.Prelude.{◌≡◌, option_copied};
 
 use crate::excerpt::{Excerpt, line_feeds};
 use crate::explanation::Explanation;
+use crate::fault_places::{FaultPlace, RefusedDefinitions, fault_place};
 use crate::hint::Hint;
-use crate::name_hints::{name_hint, primitive_place};
+use crate::inquiry::Inquiry;
+use crate::name_hints::{name_hint, primitive_place, whole_file};
 use crate::pieces::piece;
 use crate::reason::{
     Reason, Wanted, left_out_reason, no_token_reason, syntax_reason, term_syntax_reason,
 };
 use crate::refusal::Refusal;
+use crate::rows::Row;
 use crate::shown::Shown;
 use crate::syntax_hints::syntax_hint;
 use crate::text_hints::{left_out_hint, lexical_hint, term_hint};
@@ -39,7 +43,7 @@ pub struct Used {
 }
 
 /// What a person wants to know of a transformation. Of a refusal: which text is refused, at which place, and what is wrong there. Of a run:
-/// what it used and, where it is asked for, why it has no result. Takes no memory unless that is asked for.
+/// what it used and, where it is asked for, what it did, why it has no result, and warnings. Takes no memory unless that is asked for.
 #[derive(Drop)]
 pub struct RunNotes {
     subject: Subject,
@@ -50,12 +54,13 @@ pub struct RunNotes {
     has_term_line: bool,
     used: Option<Used>,
     oversize: Option<OversizeTerm>,
-    wants_explanation: bool,
-    /// The texts of a run that may have to be explained.
+    inquiry: Option<Inquiry>,
+    /// The texts of a run of which more may have to be told.
     definitions: Option<Vec<u8>>,
     term: Option<Vec<u8>>,
     /// How many bytes of the definitions, from the first on, are a library.
     library: usize,
+    rows: Option<Vec<Row>>,
     explanation: Option<Explanation>,
 }
 
@@ -71,27 +76,34 @@ impl RunNotes {
             has_term_line: true,
             used: None,
             oversize: None,
-            wants_explanation: false,
+            inquiry: None,
             definitions: None,
             term: None,
             library: 0,
+            rows: None,
             explanation: None,
         }
     }
 
-    /// Nothing was noted. A run without a result is to be explained, and warnings about the definitions are to be told: for that it is run
-    /// again, up to three times, after the answer is written, and both texts are kept in memory until then.
-    pub fn explaining() -> RunNotes {
+    /// Returns notes in which nothing was noted yet. Of a run is told what the inquiry asks, and of one that fails, or of which tables are
+    /// told, the warnings about variables. For that the program may run again after the answer is written; the texts that this takes are
+    /// kept in memory until then.
+    pub fn asking(inquiry: Inquiry) -> RunNotes {
         let mut notes = RunNotes::none();
-        notes.wants_explanation = true;
+        notes.inquiry = Some(inquiry);
         notes
     }
 
     /// Drops what was noted before.
     pub fn begin(&mut self) {
-        let wants_explanation = self.wants_explanation;
+        let inquiry = self.inquiry.take();
         *self = RunNotes::none();
-        self.wants_explanation = wants_explanation;
+        self.inquiry = inquiry;
+    }
+
+    /// Returns what is asked of the run; nothing if no inquiry was made.
+    pub fn inquiry(&self) -> Option<&Inquiry> {
+        self.inquiry.as_ref()
     }
 
     /// Which text is refused, where one is.
@@ -124,7 +136,9 @@ impl RunNotes {
     }
 
     /// What the run used, where there was one that came to its end.
-    pub fn used(&self) -> Option<&Used> {
+    pub fn used(&self) -> Option<&Used>
+        ensures { option_copied result ≡ self.now.used }
+    {
         self.used.as_ref()
     }
 
@@ -133,7 +147,16 @@ impl RunNotes {
         self.oversize.as_ref()
     }
 
-    /// Why the run has no result, and warnings, if that was asked for; what a check of definitions found; or nothing if memory for it was
+    /// Returns the rows of tables of what the run did, in the order in which they are to be written; none if none were asked for, or if
+    /// memory for them was refused.
+    pub fn rows(&self) -> &[Row] {
+        match &self.rows {
+            Some(rows) => rows.as_slice(),
+            None => &[],
+        }
+    }
+
+    /// Why the run has no result, and warnings, if they are to be told; what a check of definitions found; or nothing if memory for it was
     /// refused.
     pub fn explanation(&self) -> Option<&Explanation> {
         self.explanation.as_ref()
@@ -144,16 +167,20 @@ impl RunNotes {
         self.oversize = size;
     }
 
-    /// Keeps the text of the definitions, if a run is to be explained.
+    /// Keeps the text of the definitions, if more of the run may have to be told than its result.
     pub fn keep_definitions(&mut self, text: Vec<u8>) {
-        if self.wants_explanation {
+        if self.inquiry.is_some() {
             self.definitions = Some(text);
         }
     }
 
-    /// Keeps the text of the term, if a run is to be explained.
+    /// Keeps the text of the term, if the run may have to be repeated.
     pub fn keep_term(&mut self, text: Vec<u8>) {
-        if self.wants_explanation {
+        if self
+            .inquiry
+            .as_ref()
+            .is_some_and(|inquiry| inquiry.needs_term())
+        {
             self.term = Some(text);
         }
     }
@@ -168,12 +195,19 @@ impl RunNotes {
         self.library
     }
 
-    /// Hands out the texts that are kept, the definitions first. Nothing if one of them is not kept; if that is the term, the definitions are
-    /// dropped.
-    pub fn take_texts(&mut self) -> Option<(Vec<u8>, Vec<u8>)> {
-        let definitions = self.definitions.take()?;
-        let term = self.term.take()?;
-        Some((definitions, term))
+    /// Hands out the text of the definitions; nothing if it is not kept.
+    pub fn take_definitions(&mut self) -> Option<Vec<u8>> {
+        self.definitions.take()
+    }
+
+    /// Hands out the text of the term; nothing if it is not kept.
+    pub fn take_term(&mut self) -> Option<Vec<u8>> {
+        self.term.take()
+    }
+
+    /// Notes the rows of tables of what the run did.
+    pub fn note_rows(&mut self, rows: Vec<Row>) {
+        self.rows = Some(rows);
     }
 
     /// Notes what is to be said of the run or of the check.
@@ -182,7 +216,9 @@ impl RunNotes {
     }
 
     /// Notes what the run used.
-    pub fn note_run(&mut self, used: Used) {
+    pub fn note_run(&mut self, used: Used)
+        ensures { self.new ≡ record self.old { used = Some used } }
+    {
         self.used = Some(used);
     }
 
@@ -240,8 +276,7 @@ impl RunNotes {
 
     /// Notes what the checks found.
     fn note_check(&mut self, alloc: Global, text: &[u8], note: &Note, primitives: &PrimNames) {
-        self.hint = name_hint(alloc, text, note, primitives);
-        let place = match note.offset() {
+        let place = match self.note_hint(alloc, text, note, primitives) {
             Some(at) => Some(at),
             None => only_call(alloc, text, note),
         };
@@ -249,6 +284,31 @@ impl RunNotes {
             Some(at) => self.keep(text, at, Reason::Checked(*note)),
             None => self.reason = Some(Reason::Checked(*note)),
         }
+    }
+
+    /// Notes what was probably meant in definitions of this text, and returns the byte at which it is told what the checks found in them.
+    fn note_hint(
+        &mut self,
+        alloc: Global,
+        text: &[u8],
+        note: &Note,
+        primitives: &PrimNames,
+    ) -> Option<u64> {
+        let Ok(file) = whole_file(alloc, text) else {
+            return note.offset();
+        };
+        let definitions = RefusedDefinitions {
+            text,
+            library: self.library,
+            file: &file,
+        };
+        let place = fault_place(alloc, &definitions, note);
+        let place = place.unwrap_or(FaultPlace::as_found(note));
+        self.hint = match place.other {
+            Some(other) => Some(Hint::Elsewhere(other)),
+            None => name_hint(alloc, &definitions, note, primitives),
+        };
+        place.offset
     }
 
     /// Notes that the definitions are too long.

@@ -39,7 +39,8 @@ struct Variable<'a> {
 #[derive(Drop)]
 pub(crate) struct Walk<'a> {
     alloc: Global,
-    signature: &'a Signature,
+    /// The constructors that are declared, if they matter.
+    signature: Option<&'a Signature>,
     /// The key of the definition.
     own: Option<Key<'a>>,
     /// Its variables that are in no scope within it.
@@ -50,22 +51,47 @@ pub(crate) struct Walk<'a> {
     has_more: bool,
     /// The keys that other definitions call.
     calls: Vec<Key<'a>>,
+    /// The byte at which the call stands that is looked for.
+    sought: Option<u64>,
+    /// Whether the name that is called there is that of a variable.
+    is_variable: bool,
     warnings: Vec<Warning>,
 }
 
 impl<'a> Walk<'a> {
-    /// A walk that has seen nothing.
+    /// A walk that has seen nothing, through definitions with this signature.
     pub(crate) fn new(alloc: Global, signature: &'a Signature) -> Walk<'a> {
+        let mut walk = Walk::for_calls(alloc);
+        walk.signature = Some(signature);
+        walk
+    }
+
+    /// A walk that has seen nothing, for the calls alone: it takes no variable for a constructor.
+    pub(crate) fn for_calls(alloc: Global) -> Walk<'a> {
         Walk {
             alloc,
-            signature,
+            signature: None,
             own: None,
             outer: Vec::new(alloc),
             inner: Vec::new(alloc),
             has_more: false,
             calls: Vec::new(alloc),
+            sought: None,
+            is_variable: false,
             warnings: Vec::new(alloc),
         }
+    }
+
+    /// A walk that looks for the call whose name begins with this byte.
+    pub(crate) fn to_call(alloc: Global, offset: u64) -> Walk<'a> {
+        let mut walk = Walk::for_calls(alloc);
+        walk.sought = Some(offset);
+        walk
+    }
+
+    /// Whether the name of the call that is looked for is that of a variable which stands in front of it.
+    pub(crate) fn is_variable_called(&self) -> bool {
+        self.is_variable
     }
 
     /// The keys that definitions with other keys call, and the warnings.
@@ -104,7 +130,7 @@ impl<'a> Walk<'a> {
         else {
             return Ok(());
         };
-        if self.signature.arity_known(name, 0) {
+        if self.is_constant(name) {
             return Ok(());
         }
         let mut text = Vec::new(self.alloc);
@@ -120,6 +146,14 @@ impl<'a> Walk<'a> {
             _ => b"build always fails".as_slice(),
         })?;
         self.warn(offset, text)
+    }
+
+    /// Whether a constructor without parts has the name.
+    fn is_constant(&self, name: &[u8]) -> bool {
+        match self.signature {
+            Some(signature) => signature.arity_known(name, 0),
+            None => false,
+        }
     }
 
     fn warn(&mut self, offset: u64, text: Vec<u8>) -> Result<(), AllocError> {
@@ -138,7 +172,7 @@ impl<'a> Walk<'a> {
         name: &'a Name,
         is_bound: bool,
     ) -> Result<Variable<'a>, AllocError> {
-        if self.signature.arity_known(name.bytes(), 0) {
+        if self.is_constant(name.bytes()) {
             let mut text = Vec::new(self.alloc);
             push_cut(name.bytes(), MOST_OF_NAME, &mut text)?;
             text.extend_from_slice(b" is a variable here; the constructor is ")?;
@@ -207,6 +241,18 @@ impl<'a> Walk<'a> {
             }
         };
         note_at(&mut self.outer, index, name, used)
+    }
+
+    /// Notes that a definition is called.
+    fn note_call(&mut self, name: &Name, key: Key<'a>) -> Result<(), AllocError> {
+        if self.sought == Some(name.offset()) {
+            let is_inner = position_among(&self.inner, name).is_some();
+            self.is_variable = is_inner || position_among(&self.outer, name).is_some();
+        }
+        if self.own != Some(key) {
+            self.calls.push(key)?;
+        }
+        Ok(())
     }
 
     /// Puts the variables of a pattern into scope, which have values.
@@ -371,10 +417,7 @@ impl<'a> Walk<'a> {
 
     #[cycle(walk)]
     fn in_call(&mut self, name: &'a Name, arguments: &'a Arguments) -> Result<(), AllocError> {
-        let key = Key::of_call(name, arguments);
-        if self.own != Some(key) {
-            self.calls.push(key)?;
-        }
+        self.note_call(name, Key::of_call(name, arguments))?;
         match arguments {
             Arguments::Absent => Ok(()),
             Arguments::Strategies(strategies) => self.in_strategies(strategies),

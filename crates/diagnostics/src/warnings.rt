@@ -74,17 +74,49 @@ pub fn add_warnings(
     definitions: &Definitions<'_>,
     remarks: &mut Vec<Remark>,
 ) -> Result<(), AllocError> {
-    let (text, library) = (definitions.text, definitions.library);
     let alternatives = alternatives_of(alloc, definitions.file)?;
+    let (calls, mut warnings) = walk_along(alloc, definitions, &alternatives)?.into_parts();
+    add_group_warnings(alloc, definitions, &alternatives, &calls, &mut warnings)?;
+    tell(alloc, definitions, &warnings, remarks)
+}
+
+/// Adds the warnings about variables as remarks, as `add_warnings` does: about those that nothing binds, so that what needs them always
+/// fails, and those that have the name of a constructor. They are about what is certainly not as it was meant. An error is a refused
+/// growth; some of the remarks may have been added.
+pub fn add_variable_warnings(
+    alloc: Global,
+    definitions: &Definitions<'_>,
+    remarks: &mut Vec<Remark>,
+) -> Result<(), AllocError> {
+    let alternatives = alternatives_of(alloc, definitions.file)?;
+    let (_, warnings) = walk_along(alloc, definitions, &alternatives)?.into_parts();
+    tell(alloc, definitions, &warnings, remarks)
+}
+
+/// Walks through these alternatives.
+fn walk_along<'a>(
+    alloc: Global,
+    definitions: &Definitions<'a>,
+    alternatives: &[Alternative<'a>],
+) -> Result<Walk<'a>, AllocError> {
     let mut walk = Walk::new(alloc, definitions.signature);
-    for alternative in &alternatives {
+    for alternative in alternatives {
         walk.look_at(alternative.form)?;
     }
-    let (calls, mut warnings) = walk.into_parts();
-    add_group_warnings(alloc, definitions, &alternatives, &calls, &mut warnings)?;
-    let count = warnings.len();
+    Ok(walk)
+}
+
+/// Adds the first hundred warnings as remarks, in the order of the text but those about a library last, and how many there are if that is
+/// more.
+fn tell(
+    alloc: Global,
+    definitions: &Definitions<'_>,
+    warnings: &[Warning],
+    remarks: &mut Vec<Remark>,
+) -> Result<(), AllocError> {
+    let (text, library) = (definitions.text, definitions.library);
     let mut order = Vec::new(alloc);
-    for warning in &warnings {
+    for warning in warnings {
         order.push(warning)?;
     }
     order.sort_by_key(|warning| (warning.offset < library, warning.offset))?;
@@ -95,7 +127,7 @@ pub fn add_warnings(
             on_line: warning.other.map(|other| position_in(text, other).line),
         })?;
     }
-    add_count(alloc, count, b" warnings", remarks)
+    add_count(alloc, warnings.len(), b" warnings", remarks)
 }
 
 /// What is told of a warning.
@@ -127,7 +159,10 @@ pub fn add_count(
 }
 
 /// The rules and definitions of the file, without those of the library, in the order of the text.
-fn alternatives_of(alloc: Global, file: &File) -> Result<Vec<Alternative<'_>>, AllocError> {
+pub(crate) fn alternatives_of(
+    alloc: Global,
+    file: &File,
+) -> Result<Vec<Alternative<'_>>, AllocError> {
     let mut found = Vec::new(alloc);
     for (number, section) in file.sections.iter().enumerate() {
         match section {

@@ -5,8 +5,10 @@ use prim_registry::{Registry, Standard};
 use std::alloc::{AllocError, Global};
 use std::test::Fail;
 use strat_code::Code;
-use strat_compile::compile_with_marks;
-use strat_machine::{Account, Ending, Machine, Stand};
+use strat_compile::{compile_for_counts, compile_with_marks};
+use strat_machine::{
+    Account, CallResult, CallsKept, Ending, Machine, Stand, Trace, Watched, first_match,
+};
 use term_model::{Fault, PrimNames, RcSpace, Term};
 
 /// Definitions, a term, a budget, and the account of the run as a text: its ending and the rules of all instructions; where it failed, the byte
@@ -125,6 +127,226 @@ fn accounts_of_runs(rt: HostRuntime) -> Result<(), Fail> {
         let account = account_of(rt.alloc(), definitions, text, *budget)?;
         if account.as_slice() != *wanted {
             return Err(Fail::from((account, *wanted)));
+        }
+    }
+    Ok(())
+}
+
+/// Definitions, a term, a budget, and how often each instruction was reached and passed, and how many calls had not ended at it; then where
+/// the code of f begins with a match that may fail, if it does.
+///
+/// The code is the call of `main` and the end of the run, that of the library, which is left out, the code of f, and that of main, a `Try`
+/// with the rest of the choice.
+const COUNTED: &[(&[u8], &[u8], u32, &[u8])] = &[
+    (
+        b"strategies main = f <+ !0 f = ?1; !2",
+        b"3",
+        50,
+        b"1,1,1,0,0,1,1,0,1,1, 1,1,0,0,0,1,1,0,1,1, 0,0,0,0,0,0,0,0,0,0, at 2",
+    ),
+    (
+        b"strategies main = f <+ !0 f = ?1; !2",
+        b"1",
+        50,
+        b"1,1,1,1,1,1,1,1,0,1, 1,1,1,1,1,1,1,1,0,1, 0,0,0,0,0,0,0,0,0,0, at 2",
+    ),
+    (
+        b"strategies main = f <+ !0 f = ?1; !2",
+        b"1",
+        3,
+        b"1,0,1,0,0,1,1,0,0,0, 1,0,0,0,0,1,1,0,0,0, 0,0,1,0,0,0,0,1,0,0, at 2",
+    ),
+    (
+        b"strategies main = f <+ !0 f = ?x; !2",
+        b"3",
+        50,
+        b"1,1,1,1,1,1,1,1,0,1, 1,1,1,1,1,1,1,1,0,1, 0,0,0,0,0,0,0,0,0,0, -",
+    ),
+];
+
+/// The addresses at which the code of f and that of main begin, which are the second and the first definition.
+fn starts(code: &Code) -> (usize, usize) {
+    let entries = code.entries();
+    (
+        entries.get(1).copied().unwrap_or(0),
+        entries.first().copied().unwrap_or(0),
+    )
+}
+
+/// Adds the counts of the call of `main`, of the end, and of the code from an address on to the line.
+fn push_counts(
+    alloc: Global,
+    counts: &[u64],
+    start: usize,
+    line: &mut Vec<u8>,
+) -> Result<(), AllocError> {
+    for (address, count) in counts.iter().enumerate() {
+        if address < 2 || address >= start {
+            let number = *count;
+            line.extend_from_slice(format!(in alloc; "{number},")?.as_bytes())?;
+        }
+    }
+    line.push(b' ')?;
+    Ok(())
+}
+
+/// Adds the address of the match with which the code of f begins, as if it began at 2.
+fn push_first_match(alloc: Global, code: &Code, line: &mut Vec<u8>) -> Result<(), AllocError> {
+    let (start, after) = starts(code);
+    match first_match(code, start, after, 0) {
+        Some(address) => {
+            let place = address.saturating_sub(start).saturating_add(2);
+            line.extend_from_slice(format!(in alloc; "at {place}")?.as_bytes())
+        }
+        None => {
+            line.push(b'-')?;
+            Ok(())
+        }
+    }
+}
+
+/// The text of the counts of a run of these definitions.
+fn counts_of(
+    alloc: Global,
+    definitions: &[u8],
+    text: &[u8],
+    budget: u32,
+) -> Result<Vec<u8>, Fault> {
+    let core = core_of(alloc, definitions, &PrimNames::new(alloc))?;
+    let code = compile_for_counts(alloc, &core)?;
+    let registry = Registry::<Standard>::new(alloc);
+    if !registry.covers(code.prims()) {
+        return Err(Fault::UnknownPrimitive);
+    }
+    let mut machine = Machine::new(alloc, RcSpace);
+    let term = read_term(alloc, text)?;
+    let account = machine.account(&code, term, u64::from(budget), &registry)?;
+    let mut line = Vec::new(alloc);
+    let (start, _) = starts(&code);
+    push_counts(alloc, &account.reached, start, &mut line)?;
+    push_counts(alloc, &account.passed, start, &mut line)?;
+    push_counts(alloc, &account.unfinished, start, &mut line)?;
+    push_first_match(alloc, &code, &mut line)?;
+    Ok(line)
+}
+
+#[test]
+fn counts_of_runs(rt: HostRuntime) -> Result<(), Fail> {
+    for (definitions, text, budget, wanted) in COUNTED {
+        let counts = counts_of(rt.alloc(), definitions, text, *budget)?;
+        if counts.as_slice() != *wanted {
+            return Err(Fail::from((counts, *wanted)));
+        }
+    }
+    Ok(())
+}
+
+/// Definitions, of which the second is f, a term, a budget, which calls of f are kept, and the trace: of each call its depth, its
+/// arguments and its term, what came of it, and whether an alternative got past its first instruction; how many calls there were, and
+/// how many failed.
+const TRACED: &[(&[u8], &[u8], u32, CallsKept, &[u8])] = &[
+    (
+        b"strategies main = f(|1) f(|a) = ?[x|y]; !y; f(|a) <+ ?[]",
+        b"[7]",
+        50,
+        CallsKept::First,
+        b"0 1 of [7] -> [] past; 1 1 of [] -> [] past; 2 calls, 0 fail",
+    ),
+    (
+        b"strategies main = f <+ !0 f = ?[x|y]; !y; f",
+        b"[7]",
+        50,
+        CallsKept::First,
+        b"0 of [7] fails past; 1 of [] fails; 2 calls, 2 fail",
+    ),
+    (
+        b"strategies main = f <+ !0 f = ?[x|y]; !y; f",
+        b"[7]",
+        10,
+        CallsKept::First,
+        b"0 of [7] open past; 1 of [] open; 2 calls, 0 fail",
+    ),
+    (
+        b"strategies main = f; f; (f <+ !0) f = ?[x|y]; !y",
+        b"[7,8]",
+        50,
+        CallsKept::FirstToFail,
+        b"0 of [] fails; 3 calls, 1 fail",
+    ),
+];
+
+/// Adds the text of what came of a call.
+fn push_outcome(outcome: &CallResult, line: &mut Vec<u8>) -> Result<(), AllocError> {
+    match outcome {
+        CallResult::Rewritten(term) => {
+            line.extend_from_slice(b" -> ")?;
+            write_term(term, line)
+        }
+        CallResult::Failed => line.extend_from_slice(b" fails"),
+        CallResult::Unfinished => line.extend_from_slice(b" open"),
+    }
+}
+
+/// The text of a trace.
+fn trace_text(alloc: Global, trace: &Trace) -> Result<Vec<u8>, AllocError> {
+    let mut line = Vec::new(alloc);
+    for call in &trace.calls {
+        let depth = call.depth;
+        line.extend_from_slice(format!(in alloc; "{depth} ")?.as_bytes())?;
+        for argument in &call.arguments {
+            write_term(argument, &mut line)?;
+            line.push(b' ')?;
+        }
+        line.extend_from_slice(b"of ")?;
+        write_term(&call.term, &mut line)?;
+        push_outcome(&call.result, &mut line)?;
+        if call.furthest.is_some() {
+            line.extend_from_slice(b" past")?;
+        }
+        line.extend_from_slice(b"; ")?;
+    }
+    let (count, failures) = (trace.count, trace.failures);
+    line.extend_from_slice(format!(in alloc; "{count} calls, {failures} fail")?.as_bytes())?;
+    Ok(line)
+}
+
+/// The text of the trace of a run of these definitions.
+fn trace_of(
+    alloc: Global,
+    definitions: &[u8],
+    text: &[u8],
+    budget: u32,
+    kept: CallsKept,
+) -> Result<Vec<u8>, Fault> {
+    let core = core_of(alloc, definitions, &PrimNames::new(alloc))?;
+    let code = compile_for_counts(alloc, &core)?;
+    let registry = Registry::<Standard>::new(alloc);
+    if !registry.covers(code.prims()) {
+        return Err(Fault::UnknownPrimitive);
+    }
+    let mut machine = Machine::new(alloc, RcSpace);
+    let term = read_term(alloc, text)?;
+    let mut entries = Vec::new(alloc);
+    let mut alternatives = Vec::new(alloc);
+    if let Some(entry) = code.entries().get(1).copied() {
+        entries.push(entry)?;
+        alternatives.push(entry)?;
+    }
+    let watched = Watched {
+        entries,
+        alternatives,
+        kept,
+    };
+    let trace = machine.trace(&code, &term, u64::from(budget), &registry, &watched)?;
+    Ok(trace_text(alloc, &trace)?)
+}
+
+#[test]
+fn traces_of_runs(rt: HostRuntime) -> Result<(), Fail> {
+    for (definitions, text, budget, kept, wanted) in TRACED {
+        let trace = trace_of(rt.alloc(), definitions, text, *budget, *kept)?;
+        if trace.as_slice() != *wanted {
+            return Err(Fail::from((trace, *wanted)));
         }
     }
     Ok(())

@@ -16,13 +16,25 @@ pub(crate) fn call_sites(
     code: &Code,
     waiting: &[usize],
 ) -> Result<Vec<Option<usize>>, AllocError> {
-    let calls = calls_by_return(alloc, code)?;
     let mut sites = Vec::with_capacity(alloc, waiting.len())?;
-    for next in waiting {
-        let address = calls.get(*next).copied().unwrap_or(0);
-        sites.push(file_offset(code.mark_at(address)))?;
+    for address in &call_addresses(alloc, code, waiting)? {
+        sites.push(file_offset(code.mark_at(*address)))?;
     }
     Ok(sites)
+}
+
+/// The addresses of the calls that wait, the outermost first.
+pub(crate) fn call_addresses(
+    alloc: Global,
+    code: &Code,
+    waiting: &[usize],
+) -> Result<Vec<usize>, AllocError> {
+    let calls = calls_by_return(alloc, code)?;
+    let mut addresses = Vec::with_capacity(alloc, waiting.len())?;
+    for next in waiting {
+        addresses.push(calls.get(*next).copied().unwrap_or(0))?;
+    }
+    Ok(addresses)
 }
 
 /// For each address that of the call after which the run goes on there, or 0.
@@ -41,22 +53,46 @@ fn calls_by_return(alloc: Global, code: &Code) -> Result<Vec<usize>, AllocError>
     Ok(calls)
 }
 
-/// The index of the outermost call of the file that calls the library: the call that began a search, in which the library runs, or a
-/// strategy that it was given. `is_library` says whether the innermost strategy is one of the library.
-pub(crate) fn search_site(sites: &[Option<usize>], is_library: bool) -> Option<usize> {
+/// Whether a strategy that stands at this byte of the definitions, or at none, is not one of DEFS: it is one of the library, or of the files
+/// in front of DEFS, which are the first `library` bytes.
+pub(crate) fn is_of_library(site: Option<usize>, library: usize) -> bool {
+    match site {
+        Some(offset) => offset < library,
+        None => true,
+    }
+}
+
+/// The index of the outermost call of DEFS that calls a library: the call that began a search, in which the library runs, or a strategy that
+/// it was given. The innermost strategy stands at the byte of `leaf`.
+pub(crate) fn search_site(
+    sites: &[Option<usize>],
+    leaf: Option<usize>,
+    library: usize,
+) -> Option<usize> {
     for (index, site) in sites.iter().enumerate() {
-        if site.is_none() {
-            continue;
-        }
-        let is_search = match sites.get(index.saturating_add(1)) {
-            Some(inner) => inner.is_none(),
-            None => is_library,
-        };
-        if is_search {
+        let inner = sites.get(index.saturating_add(1)).copied().unwrap_or(leaf);
+        if !is_of_library(*site, library) && is_of_library(inner, library) {
             return Some(index);
         }
     }
     None
+}
+
+/// The index of the innermost call of DEFS, if it waits for a strategy of a file in front of DEFS, and no strategy of DEFS is what fails. The
+/// innermost strategy stands at the byte of `leaf`.
+pub(crate) fn library_call(
+    sites: &[Option<usize>],
+    leaf: Option<usize>,
+    library: usize,
+) -> Option<usize> {
+    if !is_of_library(leaf, library) {
+        return None;
+    }
+    let index = sites
+        .iter()
+        .rposition(|site| !is_of_library(*site, library))?;
+    let inner = sites.get(index.saturating_add(1)).copied().unwrap_or(leaf);
+    inner.and(Some(index))
 }
 
 /// A definition that waits, and how often it does without another one in between.

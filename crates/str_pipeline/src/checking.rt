@@ -6,22 +6,22 @@ ghost use Rattle.str_pipeline.specs.Verdict.{IsVerdict};
 ghost use Rattle.str_pipeline.specs.Faults.{IsReadingFault, is_read_fault};
 
 use crate::answer::MAX_DEFINITIONS;
+use crate::fault_remarks::add_faults;
 use crate::pipeline::has_no_line;
 use crate::program::{Program, program_to_run};
 use crate::progress::library_bytes;
+use crate::rerun::Rerun;
 use crate::source::{Source, read_all};
 use crate::status::Options;
 use diagnostics::{
-    Definitions, Explanation, Position, Remark, RunNotes, add_count, add_warnings, name_hint_in,
-    position_in, primitive_place, whole_file,
+    Definitions, Explanation, RefusedDefinitions, RunNotes, add_variable_warnings, add_warnings,
+    whole_file,
 };
 use keyed_hash::HashKeys;
 use prim_registry::{PrimMeaning, Registry};
-use scope_check::{Detail, FileFaults, Note, find_faults};
-use std::alloc::{AllocError, Global};
-use str_lexer::{Token, lex};
-use str_syntax::File;
-use term_model::{Fault, PrimNames};
+use scope_check::{find_faults, judge};
+use std::alloc::Global;
+use term_model::Fault;
 
 /// Reads definitions and judges them as `transform` does: returns nothing if nothing is wrong in them, and else the fault with which they
 /// are refused. The definition that is applied is the one whose name the options give; they matter for nothing else. At most 1,048,577
@@ -130,7 +130,12 @@ pub(crate) fn findings_in<M: PrimMeaning>(
         return Err(Fault::Memory);
     }
     let mut remarks = Vec::new(alloc);
-    add_faults(alloc, text, &file, &faults, &primitives, &mut remarks)?;
+    let refused = RefusedDefinitions {
+        text,
+        library,
+        file: &file,
+    };
+    add_faults(alloc, &refused, &faults, &primitives, &mut remarks)?;
     let definitions = Definitions {
         text,
         library,
@@ -143,65 +148,21 @@ pub(crate) fn findings_in<M: PrimMeaning>(
     Ok(Explanation::new(remarks))
 }
 
-/// Adds the faults of the file of this text as remarks, each with a hint if there is one.
-fn add_faults(
+/// Returns the warnings about variables in the definitions of a run, in which nothing is wrong. The fault is `Memory`.
+pub(crate) fn variable_warnings_in<M: PrimMeaning>(
     alloc: Global,
-    text: &[u8],
-    file: &File,
-    faults: &FileFaults,
-    primitives: &PrimNames,
-    remarks: &mut Vec<Remark>,
-) -> Result<(), Fault> {
-    let notes = faults.notes();
-    if notes.is_empty() {
-        return Ok(());
-    }
-    let tokens = lex(alloc, text)?;
-    for (index, note) in notes.iter().enumerate() {
-        remarks.push(Remark {
-            position: Some(position_of(text, &tokens, notes, index)),
-            text: format!(in alloc; "{note}")?.into_bytes(),
-            on_line: None,
-        })?;
-        if let Some(hint) = name_hint_in(file, note, primitives) {
-            remarks.push(Remark {
-                position: None,
-                text: format!(in alloc; "hint: {hint}")?.into_bytes(),
-                on_line: None,
-            })?;
-        }
-    }
-    add_count(alloc, faults.count(), b" faults", remarks)?;
-    Ok(())
-}
-
-/// The position that the note of this index is about in the text of these tokens. What has no place is at the beginning.
-fn position_of(text: &[u8], tokens: &[Token], notes: &[Note], index: usize) -> Position {
-    let offset = match notes.get(index) {
-        Some(note) => match note.offset() {
-            Some(at) => at,
-            None => call_place(tokens, notes, note, index).unwrap_or(0),
-        },
-        None => 0,
+    rerun: Rerun<'_>,
+    options: &Options,
+    registry: &Registry<M>,
+) -> Result<Explanation, Fault> {
+    let text = rerun.definitions;
+    let file = whole_file(alloc, text)?;
+    let primitives = registry.names(alloc)?;
+    let Ok(checked) = judge(alloc, rerun.keys, file, &primitives, &options.main) else {
+        return Err(Fault::Memory);
     };
-    position_in(text, usize::try_from(offset).unwrap_or(usize::MAX))
-}
-
-/// The byte at which the call of an unknown primitive begins, if all calls of this primitive are noted.
-fn call_place(tokens: &[Token], notes: &[Note], note: &Note, index: usize) -> Option<u64> {
-    let Detail::UnknownPrimitive { .. } = note.detail() else {
-        return None;
-    };
-    let before = notes.iter().take(index);
-    let before = before.filter(|other| is_alike(note, other)).count();
-    let count = notes.iter().filter(|other| is_alike(note, other)).count();
-    primitive_place(tokens, note.name(), before, count)
-}
-
-/// Whether both notes are about unknown primitives of one name.
-fn is_alike(note: &Note, other: &Note) -> bool {
-    match other.detail() {
-        Detail::UnknownPrimitive { .. } => note.name() == other.name(),
-        _ => false,
-    }
+    let definitions = Definitions::of_checked(text, rerun.library, &checked);
+    let mut remarks = Vec::new(alloc);
+    add_variable_warnings(alloc, &definitions, &mut remarks)?;
+    Ok(Explanation::new(remarks))
 }

@@ -3,53 +3,24 @@ ghost use Rattle.std.specs.Prelude.{◌≤◌};
 ghost use Rattle.term_model.specs.Limits.{max_budget};
 ghost use Rattle.prim_registry.specs.Entries.{IsHonest};
 
-use crate::callers::{call_sites, callers_line, search_site};
-use crate::causes::{
-    Leaf, is_negation, push_excess, push_failure, push_phrase, search_failure, variables,
-};
-use crate::checking::findings_in;
-use crate::program::{Purpose, make_program};
+use crate::checking::{findings_in, variable_warnings_in};
+use crate::explainer::Explainer;
+use crate::program::{Program, Purpose, make_program};
 use crate::rerun::{Evidence, Rerun, run_again};
+use crate::run_tables::tables_of;
 use crate::status::{Options, Status};
-use crate::usage::usage_line;
-use aterm_text::write_term;
-use diagnostics::{
-    Definitions, Explanation, Listing, MOST_OF_NAME, Phrase, Remark, RunNotes, add_warnings,
-    push_cut, push_number,
-};
+use diagnostics::{Definitions, Explanation, Inquiry, Listing, RunNotes, add_warnings};
 use keyed_hash::HashKeys;
 use prim_registry::{PrimMeaning, Registry};
-use std::alloc::{AllocError, Global};
-use strat_code::Code;
-use strat_machine::{Ending, Stand};
-use term_model::{Fault, Term};
+use std::alloc::Global;
+use term_model::Fault;
 
 /// The most rules for which a run is followed.
-const MOST_RULES: u64 = 100_000_000;
+pub(crate) const MOST_RULES: u64 = 100_000_000;
 
-/// The most bytes of the text of a term that are shown.
-const MOST_OF_TERM: usize = 100;
-
-/// The most variables whose terms are shown.
-const MOST_VARIABLES: usize = 8;
-
-/// What is added to a failure inside a search.
-const LAST_IN_SEARCH: &[u8] = b", the last failure inside that call";
-
-/// What the term is called on which a strategy of the file stands.
-const CURRENT: &[u8] = b"the current term: ";
-
-/// What the term is called that the strategy of a `not` made.
-const MADE: &[u8] = b"the term that its strategy made: ";
-
-/// What the last term is called to which a search of the library came.
-const LAST_TRIED: &[u8] = b"the last term that was tried: ";
-
-/// What is added to a failure in front of the last one.
-const DEEPEST: &[u8] = b", the deepest failure before that, and maybe the cause";
-
-/// Notes why a run has no result, if that is asked for and it has none, and warnings about its definitions. If memory for it is refused
-/// nothing is noted.
+/// Notes what the inquiry of the notes asks of a run that was not refused: tables of what it did, why it has no result, and warnings about
+/// its definitions. Those about variables are noted of each run that fails, or of which there are tables. What memory is refused for is not
+/// noted.
 pub(crate) fn explain_run<M: PrimMeaning>(
     alloc: Global,
     keys: HashKeys,
@@ -60,45 +31,72 @@ pub(crate) fn explain_run<M: PrimMeaning>(
 )
     requires honest { IsHonest M.answer registry.now }
 {
-    let Ok(status) = status else {
+    let status = match status {
+        Ok(Status::Refused(_)) | Err(_) => return,
+        Ok(status) => status,
+    };
+    let Some(definitions) = notes.take_definitions() else {
         return;
     };
-    let Some((definitions, term)) = notes.take_texts() else {
+    let term = notes.take_term();
+    let rerun = Rerun {
+        definitions: &definitions,
+        library: notes.library(),
+        term: bytes_of(&term),
+        budget: options.budget.min(MOST_RULES),
+        keys,
+    };
+    let Some(inquiry) = notes.inquiry() else {
         return;
     };
-    let explanation = match status {
-        Status::Failed | Status::Oversize | Status::Spent => explanation_of(
-            alloc,
-            &definitions,
-            notes.library(),
-            Rerun {
-                text: &term,
-                budget: options.budget.min(MOST_RULES),
-                keys,
-            },
-            options,
-            registry,
-        ),
-        Status::Rewritten => findings_in(
-            alloc,
-            keys,
-            &definitions,
-            notes.library(),
-            options,
-            registry,
-        ),
-        Status::Refused(_) => return,
-    };
+    let mut rows = None;
+    if inquiry.wants_tables() {
+        rows = tables_of(alloc, rerun, options, registry, inquiry).ok();
+    }
+    let explanation = remarks_on(alloc, rerun, status, options, registry, inquiry);
+    if let Some(rows) = rows {
+        notes.note_rows(rows);
+    }
     if let Ok(explanation) = explanation {
         notes.note_explanation(explanation);
     }
 }
 
-/// The explanation of a run of these definitions, of which the first bytes are a library, on the term of this text.
+/// Returns the bytes of a text, which are none if it was not kept.
+fn bytes_of(text: &Option<Vec<u8>>) -> &[u8] {
+    match text {
+        Some(text) => text.as_slice(),
+        None => &[],
+    }
+}
+
+/// Returns the remarks on a run with this status: why it has no result, and warnings.
+fn remarks_on<M: PrimMeaning>(
+    alloc: Global,
+    rerun: Rerun<'_>,
+    status: &Status,
+    options: &Options,
+    registry: &Registry<M>,
+    inquiry: &Inquiry,
+) -> Result<Explanation, Fault>
+    requires budget { rerun.budget ≤ max_budget }
+    requires honest { IsHonest M.answer registry.now }
+{
+    match status {
+        Status::Rewritten if inquiry.explains => {
+            let text = rerun.definitions;
+            findings_in(alloc, rerun.keys, text, rerun.library, options, registry)
+        }
+        _ if inquiry.explains => explanation_of(alloc, rerun, options, registry),
+        Status::Failed => variable_warnings_in(alloc, rerun, options, registry),
+        _ if inquiry.wants_tables() => variable_warnings_in(alloc, rerun, options, registry),
+        _ => Ok(Explanation::new(Vec::new(alloc))),
+    }
+}
+
+/// Returns the explanation of a run.
 fn explanation_of<M: PrimMeaning>(
     alloc: Global,
-    definitions: &[u8],
-    library: usize,
     rerun: Rerun<'_>,
     options: &Options,
     registry: &Registry<M>,
@@ -109,333 +107,35 @@ fn explanation_of<M: PrimMeaning>(
     let program = make_program(
         alloc,
         rerun.keys,
-        definitions,
+        rerun.definitions,
         options,
         registry,
         Purpose::Explanation,
     )?;
     let run = run_again(alloc, &program.code, rerun, registry)?;
-    let listing = Listing::new(alloc, definitions)?;
+    explanation_in(alloc, rerun, &program, &run, options.budget > MOST_RULES)
+}
+
+/// Returns the explanation of a run of this program in which this was found.
+fn explanation_in(
+    alloc: Global,
+    rerun: Rerun<'_>,
+    program: &Program,
+    run: &Evidence,
+    is_short: bool,
+) -> Result<Explanation, Fault> {
+    let listing = Listing::new(alloc, rerun.definitions)?;
     let mut remarks = Vec::new(alloc);
     let explainer = Explainer {
         alloc,
         listing: &listing,
         code: &program.code,
-        run: &run,
-        is_short: options.budget > MOST_RULES,
+        run,
+        library: rerun.library,
+        is_short,
     };
     explainer.explain(&mut remarks)?;
-    let definitions = Definitions::of_checked(definitions, library, &program.checked);
+    let definitions = Definitions::of_checked(rerun.definitions, rerun.library, &program.checked);
     add_warnings(alloc, &definitions, &mut remarks)?;
     Ok(Explanation::new(remarks))
-}
-
-/// Makes the remarks of an explanation.
-#[derive(Clone, Copy)]
-struct Explainer<'a> {
-    alloc: Global,
-    listing: &'a Listing<'a>,
-    code: &'a Code,
-    run: &'a Evidence,
-    /// Whether the run was followed for fewer rules than it may use.
-    is_short: bool,
-}
-
-impl<'a> Explainer<'a> {
-    /// Adds the remarks.
-    fn explain(&self, remarks: &mut Vec<Remark>) -> Result<(), AllocError> {
-        if self.run.account.ending != Ending::Spent {
-            return match &self.run.last {
-                Some(stand) => self.add_last(stand, remarks),
-                None => Ok(()),
-            };
-        }
-        if self.is_short {
-            let text = b"only its first 100000000 rules are followed".to_vec(self.alloc)?;
-            push_line(text, remarks)?;
-        }
-        let rules = self.run.account.rules.as_slice();
-        let usage = usage_line(self.alloc, self.listing, self.code, rules)?;
-        push_line(usage, remarks)?;
-        match &self.run.last {
-            Some(stand) => self.add_end(stand, remarks),
-            None => Ok(()),
-        }
-    }
-
-    /// Adds where the run was in the end: at the innermost strategy of the file.
-    fn add_end(&self, stand: &Stand, remarks: &mut Vec<Remark>) -> Result<(), AllocError> {
-        let sites = call_sites(self.alloc, self.code, &stand.waiting)?;
-        let leaf = Leaf::new(self.listing, self.code, stand).and_then(|leaf| leaf.offset());
-        let innermost = sites.iter().rposition(|site| site.is_some());
-        let waiting = match leaf {
-            Some(_) => sites.len(),
-            None => innermost.unwrap_or(0),
-        };
-        let called = innermost.and_then(|index| sites.get(index).copied().flatten());
-        let Some(offset) = leaf.or(called) else {
-            return Ok(());
-        };
-        let mut text = self.beginning_at(offset)?;
-        text.extend_from_slice(if self.is_short {
-            b"the run was here after these rules".as_slice()
-        } else {
-            b"the run was here when the rules were spent".as_slice()
-        })?;
-        self.push_at(offset, text, remarks)?;
-        self.add_term(CURRENT, &stand.term, remarks)?;
-        self.add_callers(&sites[..waiting.min(sites.len())], remarks)
-    }
-
-    /// Adds what there is to say of the last instruction, and of the deepest failure in front of it.
-    fn add_last(&self, stand: &Stand, remarks: &mut Vec<Remark>) -> Result<(), AllocError> {
-        let Some(leaf) = Leaf::new(self.listing, self.code, stand) else {
-            return Ok(());
-        };
-        let sites = call_sites(self.alloc, self.code, &stand.waiting)?;
-        let offset = leaf.offset();
-        let search = match (self.run.account.ending, offset) {
-            (Ending::Oversize, Some(_)) => None,
-            _ => search_site(&sites, offset.is_none()),
-        };
-        let inner = match search {
-            Some(index) => {
-                self.add_search(&sites, index, remarks)?;
-                index.saturating_add(1)
-            }
-            None => 0,
-        };
-        let note = if inner > 0 {
-            LAST_IN_SEARCH
-        } else {
-            b"".as_slice()
-        };
-        self.add_leaf(&leaf, stand, note, remarks)?;
-        self.add_callers(&sites[inner.min(sites.len())..], remarks)?;
-        match &self.run.deepest {
-            Some(deepest) if offset.is_some() => self.add_deepest(deepest, remarks),
-            _ => Ok(()),
-        }
-    }
-
-    /// Adds what there is to say of the deepest failure in front of the last one, if it came in a strategy of the file.
-    fn add_deepest(&self, stand: &Stand, remarks: &mut Vec<Remark>) -> Result<(), AllocError> {
-        let Some(leaf) = Leaf::new(self.listing, self.code, stand) else {
-            return Ok(());
-        };
-        if leaf.offset().is_none() {
-            return Ok(());
-        }
-        let sites = call_sites(self.alloc, self.code, &stand.waiting)?;
-        self.add_leaf(&leaf, stand, DEEPEST, remarks)?;
-        self.add_callers(&sites, remarks)
-    }
-
-    /// Adds what an instruction does, if it is one of the file, its term and its variables. The note comes after what it does.
-    fn add_leaf(
-        &self,
-        leaf: &Leaf<'_>,
-        stand: &Stand,
-        note: &[u8],
-        remarks: &mut Vec<Remark>,
-    ) -> Result<(), AllocError> {
-        if let Some(offset) = leaf.offset() {
-            self.add_effect(leaf, offset, stand, note, remarks)?;
-        }
-        self.add_term(self.name_of_term(leaf), &stand.term, remarks)?;
-        self.add_variables(leaf, stand, remarks)
-    }
-
-    /// What the term is called that stands where an instruction is.
-    fn name_of_term(&self, leaf: &Leaf<'_>) -> &'static [u8] {
-        if self.run.account.ending != Ending::Failed {
-            CURRENT
-        } else if leaf.offset().is_none() {
-            LAST_TRIED
-        } else if is_negation(self.listing, leaf) {
-            MADE
-        } else {
-            CURRENT
-        }
-    }
-
-    /// Adds that the call at this index fails, in which the library searches, and what waits for it.
-    fn add_search(
-        &self,
-        sites: &[Option<usize>],
-        index: usize,
-        remarks: &mut Vec<Remark>,
-    ) -> Result<(), AllocError> {
-        let Some(offset) = sites.get(index).copied().flatten() else {
-            return Ok(());
-        };
-        let mut text = self.beginning_at(offset)?;
-        let call = self.listing.call_at(offset);
-        match call {
-            Some(phrase) => push_phrase(self.listing, phrase, &mut text)?,
-            None => text.extend_from_slice(b"a call")?,
-        }
-        text.extend_from_slice(match self.run.account.ending {
-            Ending::Oversize => b" makes the term".as_slice(),
-            _ => search_failure(self.listing, call),
-        })?;
-        self.push_at(offset, text, remarks)?;
-        self.add_callers(&sites[..index.min(sites.len())], remarks)
-    }
-
-    /// Adds what an instruction does.
-    fn add_effect(
-        &self,
-        leaf: &Leaf<'_>,
-        offset: usize,
-        stand: &Stand,
-        note: &[u8],
-        remarks: &mut Vec<Remark>,
-    ) -> Result<(), AllocError> {
-        let offset = match leaf.phrase {
-            Some(phrase) => self.listing.offset_of(phrase),
-            None => offset,
-        };
-        let mut text = self.beginning_at(offset)?;
-        match self.run.account.ending {
-            Ending::Oversize => push_excess(self.listing, leaf, &mut text)?,
-            _ => push_failure(self.alloc, self.listing, leaf, stand, &mut text)?,
-        }
-        text.extend_from_slice(note)?;
-        self.push_at(offset, text, remarks)?;
-        self.add_alternatives(offset, remarks)
-    }
-
-    /// Adds that the definition at this byte has other alternatives, if it has.
-    fn add_alternatives(&self, offset: usize, remarks: &mut Vec<Remark>) -> Result<(), AllocError> {
-        let Some(head) = self.listing.head_before(offset) else {
-            return Ok(());
-        };
-        let Some(count) = self.listing.alternatives_before(head) else {
-            return Ok(());
-        };
-        if count < 2 {
-            return Ok(());
-        }
-        let mut text = b"the last of ".to_vec(self.alloc)?;
-        push_number(count as u64, &mut text)?;
-        text.extend_from_slice(b" alternatives of ")?;
-        push_cut(self.listing.name_of(head), MOST_OF_NAME, &mut text)?;
-        text.extend_from_slice(b"; those before it failed, too")?;
-        push_line(text, remarks)
-    }
-
-    /// Adds the text of the term, as much as stands on a line, after what it is called.
-    fn add_term(
-        &self,
-        name: &[u8],
-        term: &Term,
-        remarks: &mut Vec<Remark>,
-    ) -> Result<(), AllocError> {
-        let mut text = name.to_vec(self.alloc)?;
-        push_term(self.alloc, term, &mut text)?;
-        push_line(text, remarks)
-    }
-
-    /// Adds what the variables of an instruction have.
-    fn add_variables(
-        &self,
-        leaf: &Leaf<'_>,
-        stand: &Stand,
-        remarks: &mut Vec<Remark>,
-    ) -> Result<(), AllocError> {
-        let names = variables(self.alloc, self.listing, leaf)?;
-        if names.len() != stand.values.len() {
-            return Ok(());
-        }
-        for (index, value) in stand.values.iter().take(MOST_VARIABLES).enumerate() {
-            let (Some(name), Some(term)) = (names.get(index), value) else {
-                continue;
-            };
-            if self.is_repeated(&names, index) {
-                continue;
-            }
-            self.add_variable(*name, term, remarks)?;
-        }
-        Ok(())
-    }
-
-    /// Whether the variable at an index stands in front of it, too.
-    fn is_repeated(&self, names: &[Phrase], index: usize) -> bool {
-        let Some(name) = names.get(index) else {
-            return true;
-        };
-        let name = self.listing.text_of(*name);
-        names
-            .iter()
-            .take(index)
-            .any(|other| self.listing.text_of(*other) == name)
-    }
-
-    fn add_variable(
-        &self,
-        name: Phrase,
-        term: &Term,
-        remarks: &mut Vec<Remark>,
-    ) -> Result<(), AllocError> {
-        let mut text = Vec::new(self.alloc);
-        push_phrase(self.listing, name, &mut text)?;
-        text.extend_from_slice(b" = ")?;
-        push_term(self.alloc, term, &mut text)?;
-        push_line(text, remarks)
-    }
-
-    /// Adds the definitions in which the calls stand, if there are any.
-    fn add_callers(
-        &self,
-        sites: &[Option<usize>],
-        remarks: &mut Vec<Remark>,
-    ) -> Result<(), AllocError> {
-        match callers_line(self.alloc, self.listing, sites)? {
-            Some(text) => push_line(text, remarks),
-            None => Ok(()),
-        }
-    }
-
-    /// The beginning of a remark: the definition in which this byte stands.
-    fn beginning_at(&self, offset: usize) -> Result<Vec<u8>, AllocError> {
-        let mut text = b"in ".to_vec(self.alloc)?;
-        if let Some(head) = self.listing.head_before(offset) {
-            push_cut(self.listing.name_of(head), MOST_OF_NAME, &mut text)?;
-        }
-        text.extend_from_slice(b": ")?;
-        Ok(text)
-    }
-
-    /// Adds a remark on what stands at this byte.
-    fn push_at(
-        &self,
-        offset: usize,
-        text: Vec<u8>,
-        remarks: &mut Vec<Remark>,
-    ) -> Result<(), AllocError> {
-        remarks.push(Remark {
-            position: Some(self.listing.position(offset)),
-            text,
-            on_line: None,
-        })?;
-        Ok(())
-    }
-}
-
-/// Adds a remark without a place.
-fn push_line(text: Vec<u8>, remarks: &mut Vec<Remark>) -> Result<(), AllocError> {
-    remarks.push(Remark {
-        position: None,
-        text,
-        on_line: None,
-    })?;
-    Ok(())
-}
-
-/// Puts the text of a term on a line, as much of it as is shown.
-fn push_term(alloc: Global, term: &Term, line: &mut Vec<u8>) -> Result<(), AllocError> {
-    let mut text = Vec::new(alloc);
-    write_term(term, &mut text)?;
-    push_cut(&text, MOST_OF_TERM, line)
 }

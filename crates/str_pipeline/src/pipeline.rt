@@ -61,6 +61,7 @@ fn outcome_apart<D: Source, T: Source, M: PrimMeaning>(
     let Some(text) = read_all(alloc, defs, MAX_DEFINITIONS)? else {
         return Err(Fault::DefsTooLong);
     };
+    notes.note_library(library_bytes(defs.files()));
     let program = program_to_run(alloc, keys, &text, options, registry, notes)?;
     notes.keep_definitions(text);
     let Some(text) = read_all(alloc, term, MAX_TERM)? else {
@@ -227,8 +228,8 @@ pub fn transform<D: Source, T: Source, M: PrimMeaning, W: Sink>(
 
 /// Does as `transform` does, and notes what a person wants to know where the definitions or the term are refused: which text is, at
 /// which place, and what is wrong there; and else what the run used. What was noted before is dropped. If the notes ask for an
-/// explanation and neither text is refused, it is noted, with warnings, after the line is written; for it the program may run up to
-/// three times more. The clauses are those of `transform`, whatever is noted.
+/// explanation and neither text is refused, it is noted, with warnings, after the line is written; for it the program may run a few
+/// times more. The clauses are those of `transform`, whatever is noted.
 ///
 /// # Errors
 /// As of `transform`.
@@ -255,7 +256,6 @@ pub fn transform_with_notes<D: Source, T: Source, M: PrimMeaning, W: Sink>(
     let outcome = outcome_apart(alloc, keys, defs, term, options, registry, notes);
     notes.note_outcome(&outcome);
     let status = finish(alloc, outcome, out);
-    notes.note_library(library_bytes(defs.files()));
     explain_run(alloc, keys, &status, options, registry, notes);
     status
 }
@@ -292,7 +292,7 @@ pub fn transform_joined<S: Source, M: PrimMeaning, W: Sink>(
 
 /// Does as `transform_joined` does, and notes what a person wants to know where the definitions or the term are refused, and else what
 /// the run used. What was noted before is dropped. If the notes ask for an explanation and neither text is refused, it is noted, with
-/// warnings, after the line is written; for it the program may run up to three times more. The clauses are those of
+/// warnings, after the line is written; for it the program may run a few times more. The clauses are those of
 /// `transform_joined`, whatever is noted.
 ///
 /// # Errors

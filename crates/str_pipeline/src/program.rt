@@ -20,7 +20,7 @@ use str_desugar::to_core;
 use str_lexer::lex;
 use str_parser::parse_file;
 use strat_code::Code;
-use strat_compile::{compile, compile_with_marks};
+use strat_compile::{compile, compile_for_counts, compile_with_marks};
 use strategy_lib::with_library;
 use term_model::{Fault, PrimNames};
 
@@ -38,6 +38,8 @@ pub(crate) enum Purpose {
     Run,
     /// To be explained: its code has marks of where strategies stand.
     Explanation,
+    /// To be counted: its selections pass no call by, too.
+    Counts,
 }
 
 /// Makes the program of a definition file with the library after it, of which the definition that the options name is run, where there are
@@ -99,5 +101,6 @@ fn compile_for(alloc: Global, core: &Core, purpose: Purpose) -> Result<Code, All
     match purpose {
         Purpose::Run => compile(alloc, core),
         Purpose::Explanation => compile_with_marks(alloc, core),
+        Purpose::Counts => compile_for_counts(alloc, core),
     }
 }

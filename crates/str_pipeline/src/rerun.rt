@@ -5,18 +5,22 @@ ghost use Rattle.prim_registry.specs.Entries.{IsHonest};
 ghost use Rattle.prim_registry.specs.RegistryNames.{Covers};
 
 use crate::followed::FollowedSpace;
+use crate::waiting_calls::{Moment, stand_before_call};
 use aterm_text::read_in;
 use keyed_hash::HashKeys;
 use prim_registry::{PrimMeaning, Registry};
 use std::alloc::Global;
 use strat_code::Code;
-use strat_machine::{Account, Ending, Machine, Stand};
-use term_model::Fault;
+use strat_machine::{Account, Ending, Machine, Stand, Trace, Watched};
+use term_model::{Fault, TermSpace};
 
-/// What a run that is followed is of: the text of a term, the rules that it may use, and the keys of its space.
+/// What a run that is followed is of: the texts of its definitions and of its term, the rules that it may use, and the keys of its space.
 #[derive(Clone, Copy)]
 pub(crate) struct Rerun<'a> {
-    pub(crate) text: &'a [u8],
+    pub(crate) definitions: &'a [u8],
+    /// How many bytes of the definitions, from the first on, are a library.
+    pub(crate) library: usize,
+    pub(crate) term: &'a [u8],
     pub(crate) budget: u64,
     pub(crate) keys: HashKeys,
 }
@@ -29,9 +33,13 @@ pub(crate) struct Evidence {
     pub(crate) last: Option<Stand>,
     /// Before its deepest failure since a call last returned, if that is another one.
     pub(crate) deepest: Option<Stand>,
+    /// Before the calls of DEFS in which these two failed, where they did so in a file in front of DEFS.
+    pub(crate) call_of_last: Option<Stand>,
+    pub(crate) call_of_deepest: Option<Stand>,
 }
 
-/// Runs the code on the term of this text again, up to three times, each time in a space of its own.
+/// Runs the code on the term of this text again, each time in a space of its own: up to three times, and more often where it failed in a file
+/// in front of DEFS.
 pub(crate) fn run_again<M: PrimMeaning>(
     alloc: Global,
     code: &Code,
@@ -51,15 +59,58 @@ pub(crate) fn run_again<M: PrimMeaning>(
     if account.ending == Ending::Failed && account.before_deepest != account.before_last {
         deepest = stand_after(alloc, code, rerun, registry, account.before_deepest)?;
     }
+    let mut call_of_last = None;
+    if account.ending != Ending::Spent {
+        let steps = account.before_last;
+        call_of_last = call_stand(alloc, code, rerun, registry, &account, moment(&last, steps))?;
+    }
+    let steps = account.before_deepest;
+    let call_of_deepest = call_stand(
+        alloc,
+        code,
+        rerun,
+        registry,
+        &account,
+        moment(&deepest, steps),
+    )?;
     Ok(Evidence {
         account,
         last,
         deepest,
+        call_of_last,
+        call_of_deepest,
     })
 }
 
+/// The moment at which a run stood there after this many steps, if it did.
+fn moment(stand: &Option<Stand>, steps: u64) -> Option<Moment<'_>> {
+    match stand {
+        Some(stand) => Some(Moment { stand, steps }),
+        None => None,
+    }
+}
+
+/// Where the run stood before the call of DEFS that waits at a moment for a strategy of a file in front of DEFS, if there is one.
+fn call_stand<M: PrimMeaning>(
+    alloc: Global,
+    code: &Code,
+    rerun: Rerun<'_>,
+    registry: &Registry<M>,
+    account: &Account,
+    moment: Option<Moment<'_>>,
+) -> Result<Option<Stand>, Fault>
+    requires budget { rerun.budget ≤ max_budget }
+    requires honest { IsHonest M.answer registry.now }
+    requires covers { Covers registry.now code.now.prims }
+{
+    match moment {
+        Some(moment) => stand_before_call(alloc, code, rerun, registry, account, moment),
+        None => Ok(None),
+    }
+}
+
 /// The account of a run of the code on the term of this text.
-fn account_of<M: PrimMeaning>(
+pub(crate) fn account_of<M: PrimMeaning>(
     alloc: Global,
     code: &Code,
     rerun: Rerun<'_>,
@@ -69,14 +120,30 @@ fn account_of<M: PrimMeaning>(
     requires honest { IsHonest M.answer registry.now }
     requires covers { Covers registry.now code.now.prims }
 {
-    let mut space = FollowedSpace::new(alloc, rerun.keys);
-    let term = read_in(&mut space, alloc, rerun.text)?;
+    let space = FollowedSpace::new(alloc, rerun.keys);
+    account_in(alloc, space, code, rerun, registry)
+}
+
+/// The account of such a run in this space.
+fn account_in<S: TermSpace + Drop, M: PrimMeaning>(
+    alloc: Global,
+    space: S,
+    code: &Code,
+    rerun: Rerun<'_>,
+    registry: &Registry<M>,
+) -> Result<Account, Fault>
+    requires budget { rerun.budget ≤ max_budget }
+    requires honest { IsHonest M.answer registry.now }
+    requires covers { Covers registry.now code.now.prims }
+{
+    let mut space = space;
+    let term = read_in(&mut space, alloc, rerun.term)?;
     let mut machine = Machine::new(alloc, space);
     machine.account(code, term, rerun.budget, registry)
 }
 
 /// Where such a run stands after this number of steps, if an instruction comes next.
-fn stand_after<M: PrimMeaning>(
+pub(crate) fn stand_after<M: PrimMeaning>(
     alloc: Global,
     code: &Code,
     rerun: Rerun<'_>,
@@ -87,8 +154,60 @@ fn stand_after<M: PrimMeaning>(
     requires honest { IsHonest M.answer registry.now }
     requires covers { Covers registry.now code.now.prims }
 {
-    let mut space = FollowedSpace::new(alloc, rerun.keys);
-    let term = read_in(&mut space, alloc, rerun.text)?;
+    let space = FollowedSpace::new(alloc, rerun.keys);
+    stand_in(alloc, space, code, rerun, registry, count)
+}
+
+/// Where such a run in this space stands after this number of steps.
+fn stand_in<S: TermSpace + Drop, M: PrimMeaning>(
+    alloc: Global,
+    space: S,
+    code: &Code,
+    rerun: Rerun<'_>,
+    registry: &Registry<M>,
+    count: u64,
+) -> Result<Option<Stand>, Fault>
+    requires budget { rerun.budget ≤ max_budget }
+    requires honest { IsHonest M.answer registry.now }
+    requires covers { Covers registry.now code.now.prims }
+{
+    let mut space = space;
+    let term = read_in(&mut space, alloc, rerun.term)?;
     let mut machine = Machine::new(alloc, space);
     machine.stand(code, term, rerun.budget, registry, count)
+}
+
+/// Returns the calls of the definitions that are watched in such a run.
+pub(crate) fn trace_of<M: PrimMeaning>(
+    alloc: Global,
+    code: &Code,
+    rerun: Rerun<'_>,
+    registry: &Registry<M>,
+    watched: &Watched,
+) -> Result<Trace, Fault>
+    requires budget { rerun.budget ≤ max_budget }
+    requires honest { IsHonest M.answer registry.now }
+    requires covers { Covers registry.now code.now.prims }
+{
+    let space = FollowedSpace::new(alloc, rerun.keys);
+    trace_in(alloc, space, code, rerun, registry, watched)
+}
+
+/// Returns the calls of the definitions that are watched in such a run in this space.
+fn trace_in<S: TermSpace + Drop, M: PrimMeaning>(
+    alloc: Global,
+    space: S,
+    code: &Code,
+    rerun: Rerun<'_>,
+    registry: &Registry<M>,
+    watched: &Watched,
+) -> Result<Trace, Fault>
+    requires budget { rerun.budget ≤ max_budget }
+    requires honest { IsHonest M.answer registry.now }
+    requires covers { Covers registry.now code.now.prims }
+{
+    let mut space = space;
+    let term = read_in(&mut space, alloc, rerun.term)?;
+    let mut machine = Machine::new(alloc, space);
+    machine.trace(code, &term, rerun.budget, registry, watched)
 }

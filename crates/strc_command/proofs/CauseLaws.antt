@@ -9,7 +9,8 @@ use Rattle.term_model.specs.declared.fault.Fault.{Fault}
 use Rattle.term_model.specs.declared.fault.Fault.TheVariants.{Memory, Read, Write, DefsTooLong, Lexical, ReservedWord, Syntax, Nesting, DuplicateDeclaration, Undeclared, Parameters, Clash, UnknownStrategy, NotBuildable, UnknownPrimitive, NoMain, TermTooLong, TermSyntax, TermOversize, TermUndeclared}
 use Rattle.str_pipeline.specs.declared.status.Status.{Status}
 use Rattle.str_pipeline.specs.Faults.{IsReadingFault, IsTransferFault, is_read_fault, is_write_fault}
-use Rattle.strc_command.specs.Runs.{RunsPlain, Stops, Told}
+use Rattle.strc_command.specs.Asked.{Asked}
+use Rattle.strc_command.specs.Runs.{IsDone, RunsJoined, RunsPlain, Stops, Told, change, reads_of}
 use Rattle.strc_command.specs.Report.{diagnostic, AreSome, Failures, IsCause, Tells, TellsMore, TellsFault, TellsStop}
 
 -- the fault that ends a transformation follows from the failed reads and writes in it
@@ -82,8 +83,11 @@ pub alone : (fault : Fault) (before after : ℕ) (old new : Option (List ℕ)) �
     TellsMore fault before after old new
 alone fault before after old new told = record {
   more = [];
-  beginning = subst (λ line. GainsPrefix old new line) (sym (append-nil (diagnostic fault))) told.beginning;
-  whole = λ same. subst (λ line. Gains old new line) (sym (append-nil (diagnostic fault))) (told.whole same);
+  unasked = λ no. refl;
+  told = record {
+    beginning = subst (λ line. GainsPrefix old new line) (sym (append-nil (diagnostic fault))) told.beginning;
+    whole = λ same. subst (λ line. Gains old new line) (sym (append-nil (diagnostic fault))) (told.whole same);
+  };
 }
 
 pub alone_told : (fault : Fault) (before after : ℕ) (old new : Option (List ℕ)) → Tells fault before after old new →
@@ -105,19 +109,43 @@ line_told writes fault before after old new told = inl (alone_told fault before 
 
 -- if memory is refused before anything is written, the run stops and leaves the output as it was
 pub memory_stops : {W E : Type 0} (writer : Writer W) (stream : Writer E) (out : W) (before after : E) (exit : ℕ) →
-    (exit ≡ 4 → Told stream before after (Tells Memory)) → Stops writer stream out out before after exit
+    (exit ≡ 4 → Told (change stream before after) (Tells Memory)) →
+    Stops (change writer out out) (change stream before after) exit
 memory_stops writer stream out before after exit told = record {
   stopped = λ four. (Memory, (omega arith, omega arith), line_told _ Memory _ _ _ _ (told four));
   unwritten = λ four same. refl;
   write_failed = λ more. absurd (omega arith);
 }
 
--- the same of a run with plain options, in which nothing was read
-pub memory_stops_plain : {I W E : Type 0} (reader : Reader I) (writer : Writer W) (stream : Writer E)
-    (setting : Options → Setting) (input : I) (out : W) (before after : E) (exit : ℕ) → exit ≡ 4 →
-    Told stream before after (Tells Memory) →
-    RunsPlain reader writer stream setting input input out out before after exit
-memory_stops_plain reader writer stream setting input out before after exit four told = record {
+-- what is asked for was not begun, since memory was refused
+pub memory_done : {W E : Type 0} (asked : Asked) (text_at : List ℕ → Option (List ℕ)) (coming : Option (List ℕ))
+    (setting : Options → Setting) (writer : Writer W) (stream : Writer E) (out : W) (before after : E) (exit : ℕ) →
+    exit ≡ 4 → IsDone asked text_at coming setting (change writer out out) (change stream before after) exit
+memory_done asked text_at coming setting writer stream out before after exit four = record {
+  status = omega arith;
+  ended = λ rewrites below. absurd (omega arith);
+  judged = λ checks below. absurd (omega arith);
+  unwritten = λ checks. refl;
+}
+
+-- the same of a run in the joined form, in which nothing was read
+pub memory_joined : {I W E : Type 0} (asked : Asked) (coming : Option (List ℕ)) (reader : Reader I)
+    (setting : Options → Setting) (writer : Writer W) (stream : Writer E) (input : I) (out : W) (before after : E)
+    (exit : ℕ) → exit ≡ 4 → Told (change stream before after) (Tells Memory) →
+    RunsJoined asked coming (reads_of reader input input) setting (change writer out out) (change stream before after)
+    exit
+memory_joined asked coming reader setting writer stream input out before after exit four told = record {
+  ended = λ below. absurd (omega arith);
+  stopped = λ is. (Memory, (refl, refl), line_told _ Memory _ _ _ _ told);
+  begun = λ more. absurd (omega arith);
+  read_failed = λ more. four;
+}
+
+pub memory_stops_plain : {I W E : Type 0} (coming : Option (List ℕ)) (reader : Reader I)
+    (setting : Options → Setting) (writer : Writer W) (stream : Writer E) (input : I) (out : W) (before after : E)
+    (exit : ℕ) → exit ≡ 4 → Told (change stream before after) (Tells Memory) →
+    RunsPlain coming (reads_of reader input input) setting (change writer out out) (change stream before after) exit
+memory_stops_plain coming reader setting writer stream input out before after exit four told = record {
   status = omega arith;
   ended = λ below. absurd (omega arith);
   stopped = λ is. (Memory, (refl, refl), line_told _ Memory _ _ _ _ told);

@@ -7,6 +7,7 @@ pub mod SpacedTerms
 pub mod PrimitiveLaws
 pub mod RawLaws
 pub mod RequestLaws
-pub mod RulesLaws
+pub mod WordLaws
+pub mod NumberLaws
 pub mod FilesLaws
 pub mod OpeningLaws

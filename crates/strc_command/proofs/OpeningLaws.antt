@@ -2,7 +2,8 @@
 use Rattle.std.proofs.Common.{◌≡◌, ◌∙◌, ◌<◌, ◌≤◌, ◌+◌, ◌∷◌, ◌++◌, [], ap, refl, subst, ℕ, List, length, map, take, slice_index_or, Bool, false, Result, Ok, Err, is_err}
 use Rattle.std.specs.Prelude.{if◌then◌else◌, is_ok}
 use Rattle.std.proofs.lemmas.List.{map-append, take_more, take_all}
-use Rattle.strc_command.specs.Files.{AreNamed, IsNamed, one_more_named}
+use Rattle.std.specs.Prelude.{Option}
+use Rattle.strc_command.specs.Files.{AreNamed, IsNamed, one_more_named, path_of, texts_at, whole_text}
 use Rattle.strc_command.specs.declared.opening.Library.{Library}
 
 -- one more is opened
@@ -27,18 +28,38 @@ all_opened f g xs bs i end so = so ∙ ap (map g) (take_all i bs end)
 
 -- one more file is found
 pub one_more_found : {A : Type 0} (words : List A) (bytes : A → List ℕ) (word : A) (found more : List Library)
-    (library : Library) (i : ℕ) → i < length words → AreNamed (map bytes (take i words)) found →
-    more ≡ found ++ library ∷ [] → IsNamed (bytes (slice_index_or words i word)) library →
-    AreNamed (map bytes (take (i + 1) words)) more
+    (library : Library) (i : ℕ) → i < length words → AreNamed (map bytes (take i words)) (map path_of found) →
+    more ≡ found ++ library ∷ [] → IsNamed (bytes (slice_index_or words i word)) (path_of library) →
+    AreNamed (map bytes (take (i + 1) words)) (map path_of more)
 one_more_found words bytes word found more library i below named added is =
-    rw (added, take_more words i word below, map-append bytes (take i words) (slice_index_or words i word ∷ []))
-    (one_more_named (bytes (slice_index_or words i word)) library named is)
+    rw (
+      added,
+      take_more words i word below,
+      map-append bytes (take i words) (slice_index_or words i word ∷ []),
+      map-append path_of found (library ∷ []),
+    ) (one_more_named (bytes (slice_index_or words i word)) (path_of library) named is)
 
 -- all are found
 pub all_found : {A : Type 0} (words : List A) (bytes : A → List ℕ) (found : List Library) (i : ℕ) → length words ≤ i →
-    AreNamed (map bytes (take i words)) found → AreNamed (map bytes words) found
+    AreNamed (map bytes (take i words)) (map path_of found) → AreNamed (map bytes words) (map path_of found)
 all_found {A = A} words bytes found i end named =
-    subst (λ (front : List A). AreNamed (map bytes front) found) (take_all i words end) named
+    subst (λ (front : List A). AreNamed (map bytes front) (map path_of found)) (take_all i words end) named
+
+-- the texts of files by their paths
+pub at_paths : (text_at : List ℕ → Option (List ℕ)) (files : List Library) →
+    map (λ file. text_at (path_of file)) files ≡ map text_at (map path_of files)
+at_paths text_at [] = refl
+at_paths text_at (file ∷ files) = ap (λ texts. text_at (path_of file) ∷ texts) (at_paths text_at files)
+
+same_texts : (f g : List ℕ → Option (List ℕ)) → ((path : List ℕ) → f path ≡ g path) → (files : List (List ℕ)) →
+    map f files ≡ map g files
+same_texts f g same [] = refl
+same_texts f g same (file ∷ files) = rw (same file, same_texts f g same files) refl
+
+-- the texts of files do not change while their paths are looked up
+pub same_whole : (f g : List ℕ → Option (List ℕ)) → ((path : List ℕ) → f path ≡ g path) → (files : List (List ℕ))
+    (definitions : List ℕ) → whole_text (texts_at f files definitions) ≡ whole_text (texts_at g files definitions)
+same_whole f g same files definitions = rw (same_texts f g same files, same definitions) refl
 
 -- a push that did not fail added the value
 pub pushed : {A E : Type 0} (result : Result (Unit {0}) E) (failed : Bool) (new old : List A) (x : A)

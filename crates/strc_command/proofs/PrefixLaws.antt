@@ -1,12 +1,17 @@
 -- What a writer has gained after several writes in a row.
-use Rattle.std.proofs.Common.{◌≡◌, ◌+◌, ◌≤◌, ℕ, Bool, List, [], ◌++◌, length, take, Option, None, Some, refl, sym, arith, false, true, true≢false, length-append, subst}
+use Rattle.std.proofs.Common.{◌≡◌, ◌+◌, ◌<◌, ◌≤◌, ℕ, zero, suc, Bool, List, [], ◌∷◌, ◌++◌, append_assoc, length, take, slice_index_or, Option, None, Some, refl, sym, arith, false, true, true≢false, length-append, subst}
 use Rattle.std.proofs.lemmas.List.{append-nil, take-append-le, take_at, drop_at}
 use Rattle.std.proofs.Math.Seq.{take-add, take-length}
-use Rattle.std.specs.Prelude.{Result, Ok, Err, OnOk, is_err, if◌then◌else◌}
+use Rattle.std.specs.Prelude.{Result, Ok, Err, OnOk, IsErr, is_err, if◌then◌else◌}
 use Rattle.term_model.specs.declared.fault.Fault.{Fault}
 use Rattle.str_pipeline.specs.Device.{Gains, GainsPrefix}
 use Rattle.str_pipeline.proofs.DeviceLemmas.{Gains-append}
-use Rattle.strc_command.specs.Report.{diagnostic, Tells, TellsMore, TellsText, TellsIfAsked}
+use Rattle.std.specs.Prelude.{map}
+use Rattle.std.specs.Borrow.{Bor}
+use Rattle.std.specs.List.{concat}
+use Rattle.std.proofs.lemmas.List.{map-append, take_more, take_all}
+use Rattle.std.proofs.lemmas.List.Folds.{concat-append}
+use Rattle.strc_command.specs.Report.{TellsIfAsked, TellsLine, TellsMore, TellsText, Tells, Writes, diagnostic}
 
 -- a beginning of the first text
 pub begins_first : (a b : Option (List ℕ)) (xs ys : List ℕ) → GainsPrefix a b xs → GainsPrefix a b (xs ++ ys)
@@ -40,16 +45,20 @@ pub tells_both : {A : Type 0} (r : Result A Fault) (fault : Fault) (more : List 
 tells_both (Ok v) fault more before after old middle new first gained begun failed =
     record {
       more = more;
-      beginning = begins_second old middle new (diagnostic fault) more first begun;
-      whole =
-          λ _. Gains-append old middle new (diagnostic fault) more first gained;
+      unasked = λ no. absurd (true≢false no);
+      told = record {
+        beginning = begins_second old middle new (diagnostic fault) more first begun;
+        whole = λ _. Gains-append old middle new (diagnostic fault) more first gained;
+      };
     }
 tells_both (Err e) fault more before after old middle new first gained begun failed =
     record {
       more = more;
-      beginning = begins_second old middle new (diagnostic fault) more first begun;
-      whole =
-          λ same. absurd (omega arith);
+      unasked = λ no. absurd (true≢false no);
+      told = record {
+        beginning = begins_second old middle new (diagnostic fault) more first begun;
+        whole = λ same. absurd (omega arith);
+      };
     }
 
 -- a report that was written, and a text after it that was written as far as its result says
@@ -77,9 +86,8 @@ text_follows (Ok v) fault before after old middle new good first (text, (k, with
     let both = Gains-append old middle new (diagnostic fault) (take k text) first gained in
     record {
       more = take k text;
-      beginning = gains_all old new (diagnostic fault ++ take k text) both;
-      whole =
-          λ _. both;
+      unasked = λ no. absurd (true≢false no);
+      told = record { beginning = gains_all old new (diagnostic fault ++ take k text) both; whole = λ _. both };
     }
 text_follows (Err e) fault before after old middle new good first told = absurd (true≢false good)
 
@@ -105,3 +113,106 @@ asked_after false a b c first same = subst (λ d. TellsText a d) (sym same) firs
 pub text_as_asked : (asked : Bool) (a b : Option (List ℕ)) → asked ≡ true → TellsText a b → TellsIfAsked asked a b
 text_as_asked true a b is text = text
 text_as_asked false a b is text = absurd (true≢false (sym is))
+
+-- a text that was written, as one that is told
+pub writes_text : {text : List ℕ} {is_failed : Bool} (before after : ℕ) (old new : Option (List ℕ)) →
+    Writes text is_failed before after old new → TellsText old new
+writes_text {text} before after old new writes = (text, writes.beginning)
+
+-- a line that could not be written, and nothing after it
+pub line_failed : (line : List ℕ) (asks : Bool) (before after : ℕ) (old new : Option (List ℕ)) →
+    Writes line true before after old new → TellsLine line asks before after old new
+line_failed line asks before after old new writes = record {
+  more = [];
+  unasked = λ no. refl;
+  told = record {
+    beginning = rw (append-nil line) writes.beginning;
+    whole = λ same. absurd (omega (arith, writes.failed));
+  };
+}
+
+-- a line, and after it what is asked for
+pub line_told : (line : List ℕ) (asks : Bool) (before between after : ℕ) (old middle new : Option (List ℕ)) →
+    Writes line false before between old middle → TellsIfAsked asks middle new →
+    TellsLine line asks before after old new
+line_told line false before between after old middle new writes same =
+    let gained : Gains old new line = subst (λ o. Gains old o line) (sym same) (writes.whole refl) in
+    record {
+      more = [];
+      unasked = λ no. refl;
+      told = record {
+        beginning = rw (append-nil line) (gains_all old new line gained);
+        whole = λ _. rw (append-nil line) gained;
+      };
+    }
+line_told line true before between after old middle new writes (text, (k, within, gained)) =
+    let both = Gains-append old middle new line (take k text) (writes.whole refl) gained in
+    record {
+      more = take k text;
+      unasked = λ no. absurd (true≢false no);
+      told = record { beginning = gains_all old new (line ++ take k text) both; whole = λ _. both };
+    }
+
+-- before anything is written
+pub gains_none : (a : Option (List ℕ)) → Gains a a []
+gains_none None = tt
+gains_none (Some xs) = rw append-nil refl
+
+-- the bytes of pieces
+abbrev pub bytes_of : List (Bor (List ℕ)) → List ℕ
+bytes_of pieces = concat (map (λ piece. piece.now) pieces)
+
+-- the pieces up to a place and the one there
+pub one_more_piece : (pieces : List (Bor (List ℕ))) (i : ℕ) (piece : Bor (List ℕ)) → i < length pieces →
+    bytes_of (take (i + 1) pieces) ≡ bytes_of (take i pieces) ++ (slice_index_or pieces i piece).now
+one_more_piece pieces i piece below =
+    rw (
+      take_more pieces i piece below,
+      map-append (λ (p : Bor (List ℕ)). p.now) (take i pieces) (slice_index_or pieces i piece ∷ []),
+      concat-append (map (λ (p : Bor (List ℕ)). p.now) (take i pieces)) ((slice_index_or pieces i piece).now ∷ []),
+      append-nil (slice_index_or pieces i piece).now,
+    ) refl
+
+-- the pieces up to a place are a beginning of all
+pub pieces_begin : (pieces : List (Bor (List ℕ))) (i : ℕ) →
+    (rest : List ℕ) × (bytes_of pieces ≡ bytes_of (take i pieces) ++ rest)
+pieces_begin [] zero = ([], refl)
+pieces_begin [] (suc i) = ([], refl)
+pieces_begin (p ∷ pieces) zero = (bytes_of (p ∷ pieces), refl)
+pieces_begin (p ∷ pieces) (suc i) =
+    let more = pieces_begin pieces i in
+    (more.0, rw more.1 (simp append_assoc))
+
+-- a piece was written after those in front of it
+pub piece_written : (pieces : List (Bor (List ℕ))) (i : ℕ) (piece : Bor (List ℕ)) (a b c : Option (List ℕ)) →
+    i < length pieces → Gains a b (bytes_of (take i pieces)) → Gains b c (slice_index_or pieces i piece).now →
+    Gains a c (bytes_of (take (i + 1) pieces))
+piece_written pieces i piece a b c below front written =
+    rw (one_more_piece pieces i piece below) (Gains-append a b c (bytes_of (take i pieces))
+    (slice_index_or pieces i piece).now front written)
+
+-- a beginning of it was
+pub piece_begun : (pieces : List (Bor (List ℕ))) (i : ℕ) (piece : Bor (List ℕ)) (a b c : Option (List ℕ)) →
+    i < length pieces → Gains a b (bytes_of (take i pieces)) → GainsPrefix b c (slice_index_or pieces i piece).now →
+    GainsPrefix a c (bytes_of pieces)
+piece_begun pieces i piece a b c below front begun =
+    let more = pieces_begin pieces (i + 1) in
+    let both = begins_second a b c (bytes_of (take i pieces)) (slice_index_or pieces i piece).now front begun in
+    rw more.1 (begins_first a c (bytes_of (take (i + 1) pieces)) more.0
+    (rw (one_more_piece pieces i piece below) both))
+
+-- and all of them were
+pub pieces_written : (pieces : List (Bor (List ℕ))) (i : ℕ) (a b : Option (List ℕ)) (before after : ℕ) →
+    length pieces ≤ i → Gains a b (bytes_of (take i pieces)) → after ≡ before → Writes (bytes_of pieces) false before
+    after a b
+pieces_written pieces i a b before after end written same =
+    let all : Gains a b (bytes_of pieces) = subst (λ (front : List (Bor (List ℕ))). Gains a b (bytes_of front))
+    (take_all i pieces end) written in
+    record { beginning = gains_all a b (bytes_of pieces) all; whole = λ _. all; failed = omega arith }
+
+-- a piece could not be written
+pub writing_failed : {A : Type 0} (r : Result A Fault) (text : List ℕ) (before after : ℕ) (old new : Option (List ℕ)) →
+    IsErr r → GainsPrefix old new text → after ≡ before + 1 → Writes text (is_err r) before after old new
+writing_failed (Ok v) text before after old new bad begun failed = absurd (true≢false (sym bad))
+writing_failed (Err e) text before after old new bad begun failed =
+    record { beginning = begun; whole = λ no. absurd (true≢false no); failed = failed }

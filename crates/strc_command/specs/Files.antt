@@ -1,6 +1,7 @@
 -- The headline does not rest on this file.
 -- The text of definitions that come from several files.
-use Rattle.std.specs.Prelude.{◌≡◌, ◌≢◌, ℕ, List, [], ◌∷◌, ◌++◌, map, codes, Option, None, Some}
+use Rattle.std.specs.Prelude.{◌≡◌, ◌≢◌, ℕ, List, [], ◌∷◌, ◌++◌, map, codes, Option, None, Some, IfSome}
+use Rattle.str_pipeline.specs.Joined.{OfJoined}
 use Rattle.strc_command.specs.declared.definition_files.DefinitionFiles.{DefinitionFiles}
 use Rattle.strc_command.specs.declared.opening.Library.{Library}
 
@@ -33,17 +34,37 @@ abbrev pub path_of : Library → List ℕ
 path_of library = library.path.bytes.items
 
 -- the file that a word of `--with` names: the one with this path, but for the word of the installed prelude
-abbrev pub IsNamed : List ℕ → Library → Type 0
-IsNamed word library = word ≢ codes "prelude" → path_of library ≡ word
+abbrev pub IsNamed : List ℕ → List ℕ → Type 0
+IsNamed word path = word ≢ codes "prelude" → path ≡ word
 
--- the files that words name, in their order
-pub data AreNamed : List (List ℕ) → List Library → Type 0 where
+-- the paths of the files that words name, in their order
+pub data AreNamed : List (List ℕ) → List (List ℕ) → Type 0 where
   none_named : AreNamed [] []
-  one_more_named : {words : List (List ℕ)} {libraries : List Library} (word : List ℕ) (library : Library) →
-      AreNamed words libraries → IsNamed word library → AreNamed (words ++ word ∷ []) (libraries ++ library ∷ [])
+  one_more_named : {words paths : List (List ℕ)} (word path : List ℕ) → AreNamed words paths → IsNamed word path →
+      AreNamed (words ++ word ∷ []) (paths ++ path ∷ [])
 
 -- the texts at the paths of the libraries, and then that at the path of the definitions, where a path leads to such a
 -- text
-abbrev pub texts_at : (List ℕ → Option (List ℕ)) → List Library → List ℕ → List (Option (List ℕ))
-texts_at text_at libraries definitions =
-    map (λ library. text_at (path_of library)) libraries ++ text_at definitions ∷ []
+abbrev pub texts_at : (List ℕ → Option (List ℕ)) → List (List ℕ) → List ℕ → List (Option (List ℕ))
+texts_at text_at libraries definitions = map text_at libraries ++ text_at definitions ∷ []
+
+-- a relation of the whole text of the definitions at this path and of the files in front of them that words name
+abbrev pub OfFiles : (List ℕ → Option (List ℕ)) → List (List ℕ) → List ℕ → (List ℕ → Type 0) → Type 0
+OfFiles text_at libraries definitions relates = (files : List (List ℕ)) × AreNamed libraries files
+    × IfSome (whole_text (texts_at text_at files definitions)) relates
+
+-- a relation of the text of the definitions by the paths that are named: without one that text is the input
+abbrev pub OfDefinitions : (List ℕ → Option (List ℕ)) → Option (List ℕ) → List (List ℕ) → List (List ℕ) →
+    (List ℕ → Type 0) → Type 0
+OfDefinitions text_at coming libraries [] relates = IfSome coming relates
+OfDefinitions text_at coming libraries (definitions ∷ term) relates = OfFiles text_at libraries definitions relates
+
+-- a relation of the texts of the definitions and of the term by the paths that are named: without one the input has
+-- both in the joined form, and with one it has the term
+abbrev pub OfTexts : (List ℕ → Option (List ℕ)) → Option (List ℕ) → List (List ℕ) → List (List ℕ) →
+    (List ℕ → List ℕ → Type 0) → Type 0
+OfTexts text_at coming libraries [] relates = OfJoined coming relates
+OfTexts text_at coming libraries (definitions ∷ []) relates =
+    OfFiles text_at libraries definitions (λ d. IfSome coming (relates d))
+OfTexts text_at coming libraries (definitions ∷ term ∷ more) relates =
+    OfFiles text_at libraries definitions (λ d. IfSome (text_at term) (relates d))

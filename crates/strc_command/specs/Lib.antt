@@ -1,6 +1,6 @@
 pub mod Report
-pub mod Request
-pub mod Rules
+pub mod Elements
+pub mod Asked
 pub mod Primitives
 pub mod Files
 pub mod Pretty

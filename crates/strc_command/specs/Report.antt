@@ -1,6 +1,6 @@
 -- The headline does not rest on this file.
 -- The exit status, and what is reported on the diagnostic stream.
-use Rattle.std.specs.Prelude.{◌≡◌, ◌<◌, ℕ, Bool, true, false, ◌||◌, List, [], ◌∷◌, ◌++◌, ◌⊎◌, codes, decimal, Option, None, Some}
+use Rattle.std.specs.Prelude.{◌≡◌, ◌<◌, ◌+◌, ℕ, Bool, true, false, ◌||◌, List, [], ◌∷◌, ◌++◌, ◌⊎◌, codes, decimal, nat_lt, if◌then◌else◌, Option, None, Some}
 use Rattle.term_model.specs.declared.fault.Fault.{Fault}
 use Rattle.term_model.specs.declared.fault.Fault.TheVariants.{Memory, Read, Write, Lexical, ReservedWord, Syntax, Nesting, TermSyntax, TermOversize}
 use Rattle.term_model.specs.Fault.{word_of}
@@ -8,6 +8,9 @@ use Rattle.str_pipeline.specs.declared.status.Status.{Status}
 use Rattle.str_pipeline.specs.declared.status.Status.TheVariants.{Rewritten, Failed, Oversize, Spent, Refused}
 use Rattle.str_pipeline.specs.Device.{Gains, GainsPrefix}
 use Rattle.str_pipeline.specs.Faults.{IsReadingFault}
+use Rattle.term_model.specs.Limits.{max_budget, max_depth, max_weight}
+use Rattle.strc_command.specs.Asked.{max_rules}
+use Rattle.strc_command.specs.declared.request.OutputOptions.{OutputOptions}
 
 abbrev pub exit_of : Status → ℕ
 exit_of Rewritten = 0
@@ -54,17 +57,31 @@ IsCause reads writes Read = AreSome reads × AreNone writes
 IsCause reads writes Write = AreNone reads × AreSome writes
 IsCause reads writes fault = ⊥
 
--- the line of the fault is on a stream with these numbers of failed writes before and after: a beginning of it, and the
--- whole where no write failed
-pub record Tells (fault : Fault) (before after : ℕ) (old new : Option (List ℕ)) : Type 0 where
-  pub beginning : GainsPrefix old new (diagnostic fault)
-  pub whole : after ≡ before → Gains old new (diagnostic fault)
+-- a text is on a stream with these numbers of failed writes before and after: a beginning of it, and the whole where no
+-- write failed
+pub record TellsWhole (text : List ℕ) (before after : ℕ) (old new : Option (List ℕ)) : Type 0 where
+  pub beginning : GainsPrefix old new text
+  pub whole : after ≡ before → Gains old new text
 
--- the same where a text may say more after the line; what it says is for a person
-pub record TellsMore (fault : Fault) (before after : ℕ) (old new : Option (List ℕ)) : Type 0 where
+-- a text was written, or a beginning of it where a write failed
+pub record Writes (text : List ℕ) (is_failed : Bool) (before after : ℕ) (old new : Option (List ℕ)) : Type 0 where
+  pub beginning : GainsPrefix old new text
+  pub whole : is_failed ≡ false → Gains old new text
+  pub failed : after ≡ before + (if is_failed then 1 else 0)
+
+-- the line of the fault is on it
+abbrev pub Tells : Fault → ℕ → ℕ → Option (List ℕ) → Option (List ℕ) → Type 0
+Tells fault before after old new = TellsWhole (diagnostic fault) before after old new
+
+-- a line is on it, and more after it where that is asked for; what that says is for a person
+pub record TellsLine (line : List ℕ) (asks : Bool) (before after : ℕ) (old new : Option (List ℕ)) : Type 0 where
   pub more : List ℕ
-  pub beginning : GainsPrefix old new (diagnostic fault ++ more)
-  pub whole : after ≡ before → Gains old new (diagnostic fault ++ more)
+  pub unasked : asks ≡ false → more ≡ []
+  pub told : TellsWhole (line ++ more) before after old new
+
+-- the line of the fault is on it, and a text may say more after the line
+abbrev pub TellsMore : Fault → ℕ → ℕ → Option (List ℕ) → Option (List ℕ) → Type 0
+TellsMore fault before after old new = TellsLine (diagnostic fault) true before after old new
 
 -- the line of a fault that stops a run is on a stream, and of a failed read or write more may follow; of memory nothing
 -- does
@@ -99,21 +116,42 @@ abbrev pub TellsIfAsked : Bool → Option (List ℕ) → Option (List ℕ) → T
 TellsIfAsked false old new = new ≡ old
 TellsIfAsked true old new = TellsText old new
 
--- a refusal is reported, and for a person that the budget is spent or that a term did not fit. Of a result and of a
--- failure nothing is, unless the numbers of the run or an explanation are asked for
-abbrev pub IsReportedWith : Bool → Bool → Status → ℕ → ℕ → Option (List ℕ) → Option (List ℕ) → Type 0
-IsReportedWith has_stats explains Rewritten before after old new = TellsIfAsked (has_stats || explains) old new
-IsReportedWith has_stats explains Failed before after old new = TellsIfAsked (has_stats || explains) old new
-IsReportedWith has_stats explains (Refused fault) before after old new = TellsMore fault before after old new
-IsReportedWith has_stats explains Oversize before after old new = TellsText old new
-IsReportedWith has_stats explains Spent before after old new = TellsText old new
+-- how to ask for a larger budget, if there is one
+abbrev pub larger_budget : ℕ → List ℕ
+larger_budget budget =
+    if nat_lt budget max_rules then codes "; write --rules N with a larger N, or --no-limit"
+    else (if nat_lt budget max_budget then codes "; write --no-limit" else [])
 
--- a refusal is reported, and for a person that the budget is spent or that a term did not fit; nothing else is
-abbrev pub IsReported : Status → ℕ → ℕ → Option (List ℕ) → Option (List ℕ) → Type 0
-IsReported (Refused fault) before after old new = TellsMore fault before after old new
-IsReported Oversize before after old new = TellsText old new
-IsReported Spent before after old new = TellsText old new
-IsReported status before after old new = new ≡ old
+-- the line of a run that spent its budget
+abbrev pub spent_line : ℕ → List ℕ
+spent_line budget =
+    codes "strc: the budget of " ++ (decimal budget ++ (codes " rules is spent" ++ (larger_budget budget ++ 10 ∷ [])))
+
+-- a line says how large a term was that did not fit, by this measure, and the most by it
+abbrev pub size_line : List ℕ → ℕ → ℕ → List ℕ
+size_line measure size most = codes "strc: a term of " ++ (measure ++ (32 ∷ [] ++ (decimal size
+    ++ (codes " would be made; the most is " ++ (decimal most ++ 10 ∷ [])))))
+
+-- the line of a run in which a term did not fit, whose size may be known; none if it is not
+abbrev pub IsSizeLine : List ℕ → Type 0
+IsSizeLine line = (line ≡ []) ⊎ (size : ℕ) × ((line ≡ size_line (codes "weight at least") size max_weight)
+    ⊎ (line ≡ size_line (codes "depth") size max_depth) ⊎ (line ≡ size_line (codes "depth at least") size max_depth))
+
+-- anything is said of a run that was neither refused nor stopped by a limit
+abbrev pub asks_more : OutputOptions → Bool
+asks_more output = output.has_stats || (output.explains || (output.has_counts || (output.has_all_counts
+    || (output.has_profile || output.has_traces))))
+
+-- a refusal is reported, and for a person that the budget is spent, that a term did not fit, or what may be wrong in
+-- definitions that fail. Of a result nothing is, unless more of the run is asked for
+abbrev pub IsReported : OutputOptions → ℕ → Status → ℕ → ℕ → Option (List ℕ) → Option (List ℕ) → Type 0
+IsReported output budget Rewritten before after old new = TellsIfAsked (asks_more output) old new
+IsReported output budget Failed before after old new = TellsText old new
+IsReported output budget (Refused fault) before after old new = TellsMore fault before after old new
+IsReported output budget Oversize before after old new =
+    (line : List ℕ) × IsSizeLine line × TellsLine line (asks_more output) before after old new
+IsReported output budget Spent before after old new =
+    TellsLine (spent_line budget) (asks_more output) before after old new
 
 -- the exit status of a check of definitions in which nothing is wrong, or that are refused
 abbrev pub exit_of_verdict : Option Fault → ℕ

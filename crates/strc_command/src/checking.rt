@@ -1,13 +1,12 @@
 //! The check of definitions without a term.
-ghost use Rattle.std.specs.Prelude.{◌≡◌, ◌+◌, ◌<◌, ◌≤◌, Option, IfSome};
-ghost use Rattle.term_model.specs.declared.fault.Fault.{Fault};
+ghost use Rattle.std.specs.Prelude.{◌≡◌, ◌+◌, ◌<◌, ◌≤◌, map, IfSome};
 ghost use Rattle.str_pipeline.specs.Setting.{setting_of};
-ghost use Rattle.str_pipeline.specs.Verdict.{IsVerdict};
 ghost use Rattle.str_pipeline.specs.Limits.{max_definitions};
-ghost use Rattle.strc_command.specs.Files.{texts_at, whole_text};
+ghost use Rattle.strc_command.specs.Asked.{paths_in};
+ghost use Rattle.strc_command.specs.Elements.{texts_in};
+ghost use Rattle.strc_command.specs.Files.{OfDefinitions, OfFiles, path_of, texts_at, whole_text};
 ghost use Rattle.strc_command.specs.Report.{exit_of_verdict, IsUnread, TellsVerdict};
-ghost use Rattle.strc_command.specs.declared.request.Texts.TheVariants.{Joined};
-ghost use Rattle.strc_command.specs.Runs.{Told};
+ghost use Rattle.strc_command.specs.Runs.{IsJudged, Told, change};
 
 use crate::ending::{report_findings, write_remarks};
 use crate::failure::Failure;
@@ -31,7 +30,7 @@ fn conclude_check<E: Sink>(
     diagnostics: &mut E,
 ) -> u8
     ensures status { (exit_of_verdict verdict ≡ result) × (result ≤ 2) }
-    ensures told { Told E.writer diagnostics.old diagnostics.new (TellsVerdict verdict) }
+    ensures told { Told (change E.writer diagnostics.old diagnostics.new) (TellsVerdict verdict) }
 {
     match verdict {
         Some(fault) => {
@@ -57,12 +56,11 @@ fn check_reader<D: Source, E: Sink, M: PrimMeaning>(
     diagnostics: &mut E,
 ) -> u8
     ensures status { result ≤ 4 }
-    ensures judged { result < 4 → (verdict : Option Fault) × (exit_of_verdict verdict ≡ result)
-        × IfSome (D.reader.coming definitions.old)
-        (λ d. IsVerdict (setting_of M.answer registry.now options.now) d verdict)
-        × Told E.writer diagnostics.old diagnostics.new (TellsVerdict verdict) }
+    ensures judged { result < 4 → IsJudged (IfSome (D.reader.coming definitions.old))
+        (setting_of M.answer registry.now options.now)
+        (change E.writer diagnostics.old diagnostics.new) result }
     ensures stopped { result ≡ 4 →
-        Told E.writer diagnostics.old diagnostics.new IsUnread }
+        Told (change E.writer diagnostics.old diagnostics.new) IsUnread }
     ensures bounded { D.reader.reads definitions.new ≤ D.reader.reads definitions.old +
         max_definitions + 1 }
 {
@@ -98,13 +96,12 @@ fn check_files<P: Paths, E: Sink, M: PrimMeaning>(
     diagnostics: &mut E,
 ) -> u8
     ensures status { result ≤ 4 }
-    ensures judged { result < 4 → (verdict : Option Fault) × (exit_of_verdict verdict ≡ result)
-        × IfSome (whole_text (texts_at (P.text_at paths.old)
-        reporting.entry.libraries.now reporting.entry.definitions.now))
-        (λ d. IsVerdict (setting_of M.answer registry.now options.now) d verdict)
-        × Told E.writer diagnostics.old diagnostics.new (TellsVerdict verdict) }
+    ensures judged { result < 4 → IsJudged (IfSome (whole_text (texts_at (P.text_at paths.old)
+        (map path_of reporting.entry.libraries.now) reporting.entry.definitions.now)))
+        (setting_of M.answer registry.now options.now)
+        (change E.writer diagnostics.old diagnostics.new) result }
     ensures stopped { result ≡ 4 →
-        Told E.writer diagnostics.old diagnostics.new IsUnread }
+        Told (change E.writer diagnostics.old diagnostics.new) IsUnread }
 {
     let (libraries, path) = (reporting.libraries, reporting.definitions);
     let mut definitions = match open_definitions(alloc, paths, libraries, path, diagnostics) {
@@ -115,6 +112,42 @@ fn check_files<P: Paths, E: Sink, M: PrimMeaning>(
         alloc,
         keys,
         &mut definitions,
+        reporting,
+        options,
+        registry,
+        diagnostics,
+    )
+}
+
+/// Checks the definitions of the file at the path, and of those in front of it that the request names. As `check_reader`; a file that cannot
+/// be opened is a fault of reading.
+fn check_named<P: Paths, E: Sink, M: PrimMeaning>(
+    alloc: Global,
+    keys: HashKeys,
+    request: &Request<'_>,
+    path: &str,
+    paths: &mut P,
+    options: &Options,
+    registry: &Registry<M>,
+    diagnostics: &mut E,
+) -> u8
+    ensures status { result ≤ 4 }
+    ensures judged { result < 4 → IsJudged
+        (OfFiles (P.text_at paths.old) (texts_in request.now.libraries.items) path.now)
+        (setting_of M.answer registry.now options.now)
+        (change E.writer diagnostics.old diagnostics.new) result }
+    ensures stopped { result ≡ 4 →
+        Told (change E.writer diagnostics.old diagnostics.new) IsUnread }
+{
+    let libraries = match find_libraries(alloc, paths, &request.libraries, diagnostics) {
+        Ok(libraries) => libraries,
+        Err(status) => return status,
+    };
+    let reporting = Reporting::new(request, &libraries, path, INPUT);
+    check_files(
+        alloc,
+        keys,
+        paths,
         reporting,
         options,
         registry,
@@ -135,21 +168,19 @@ pub(crate) fn run_check<P: Paths, I: Source, E: Sink, M: PrimMeaning>(
     diagnostics: &mut E,
 ) -> u8
     ensures status { result ≤ 4 }
-    ensures input_judged { request.now.texts ≡ Joined → result < 4 → (verdict : Option Fault) ×
-        (exit_of_verdict verdict ≡ result)
-        × IfSome (I.reader.coming input.old)
-        (λ d. IsVerdict (setting_of M.answer registry.now options.now) d verdict)
-        × Told E.writer diagnostics.old diagnostics.new (TellsVerdict verdict) }
-    ensures told { result < 4 → (verdict : Option Fault) × (exit_of_verdict verdict ≡ result)
-        × Told E.writer diagnostics.old diagnostics.new (TellsVerdict verdict) }
+    ensures judged { result < 4 → IsJudged
+        (OfDefinitions (P.text_at paths.old) (I.reader.coming input.old)
+        (texts_in request.now.libraries.items) (paths_in request.now.texts))
+        (setting_of M.answer registry.now options.now)
+        (change E.writer diagnostics.old diagnostics.new) result }
     ensures stopped { result ≡ 4 →
-        Told E.writer diagnostics.old diagnostics.new IsUnread }
+        Told (change E.writer diagnostics.old diagnostics.new) IsUnread }
     ensures bounded { I.reader.reads input.new ≤ I.reader.reads input.old + max_definitions + 1 }
 {
-    let path = match request.texts {
+    match request.texts {
         Texts::Joined => {
             let reporting = Reporting::new(request, &[], INPUT, INPUT);
-            return check_reader(
+            check_reader(
                 alloc,
                 keys,
                 input,
@@ -157,22 +188,17 @@ pub(crate) fn run_check<P: Paths, I: Source, E: Sink, M: PrimMeaning>(
                 options,
                 registry,
                 diagnostics,
-            );
+            )
         }
-        Texts::Definitions(path) | Texts::Both(path, _) => path,
-    };
-    let libraries = match find_libraries(alloc, paths, &request.libraries, diagnostics) {
-        Ok(libraries) => libraries,
-        Err(status) => return status,
-    };
-    let reporting = Reporting::new(request, &libraries, path, INPUT);
-    check_files(
-        alloc,
-        keys,
-        paths,
-        reporting,
-        options,
-        registry,
-        diagnostics,
-    )
+        Texts::Definitions(path) | Texts::Both(path, _) => check_named(
+            alloc,
+            keys,
+            request,
+            path,
+            paths,
+            options,
+            registry,
+            diagnostics,
+        ),
+    }
 }

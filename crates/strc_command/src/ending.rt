@@ -1,30 +1,60 @@
 //! Reports of how a transformation ended.
-ghost use Rattle.std.specs.Prelude.{◌||◌};
-ghost use Rattle.strc_command.specs.Report.{IsReportedWith, TellsIfAsked, TellsMore, TellsText};
-ghost use Rattle.strc_command.specs.Runs.{Told};
+ghost use Rattle.std.specs.Prelude.{◌≡◌, List, ℕ, is_err, map};
+ghost use Rattle.std.specs.List.{concat};
+ghost use Rattle.strc_command.specs.Report.{IsReported, IsSizeLine, TellsIfAsked, TellsLine, TellsMore, TellsText, Writes, asks_more, larger_budget, size_line, spent_line};
+ghost use Rattle.strc_command.specs.Runs.{Told, change};
 
 use crate::names::is_unseen;
 use crate::report::{FileLine, Reporting, report, report_numbers, report_refusal};
+use crate::request::{MAX_RULES, OutputOptions};
+use crate::tables::write_rows;
 use itoa::Buffer;
-use std::alloc::Global;
+use std::alloc::{AllocError, Global};
 use str_pipeline::{
-    MAX_BUDGET, NamedLine, OversizeTerm, Position, Remark, RunNotes, Sink, Status, write_all,
+    Coverage, Inquiry, MAX_BUDGET, NamedLine, OversizeTerm, Position, Remark, RunNotes, Sink,
+    Status, write_all,
 };
 use term_model::Fault;
 use term_model::term::{MAX_DEPTH, MAX_WEIGHT};
 
-/// Returns notes for a run that is reported so: they ask for an explanation where the report has one.
-pub(crate) fn notes_for(reporting: Reporting<'_>) -> RunNotes {
-    if reporting.explains {
-        RunNotes::explaining()
-    } else {
-        RunNotes::none()
+/// Returns notes for a run that is reported so: they ask what the report tells. If memory for that is refused, they ask nothing.
+pub(crate) fn notes_for(alloc: Global, reporting: Reporting<'_>) -> RunNotes {
+    match inquiry_of(alloc, reporting) {
+        Ok(inquiry) => RunNotes::asking(inquiry),
+        Err(_) => RunNotes::none(),
+    }
+}
+
+/// Returns what is asked of a run that is reported so.
+fn inquiry_of(alloc: Global, reporting: Reporting<'_>) -> Result<Inquiry, AllocError> {
+    let mut traces = Vec::new(alloc);
+    for name in reporting.traces {
+        traces.push(name.as_bytes().to_vec(alloc)?)?;
+    }
+    let output = reporting.output;
+    Ok(Inquiry {
+        explains: output.explains,
+        counts: coverage_of(output),
+        profiles: output.has_profile,
+        traces,
+        only_failures: output.only_failures,
+    })
+}
+
+/// Returns of which files the alternatives are counted, if of any.
+fn coverage_of(output: OutputOptions) -> Option<Coverage> {
+    match (output.has_all_counts, output.has_counts) {
+        (true, _) => Some(Coverage::AllFiles),
+        (false, true) => Some(Coverage::LastFile),
+        (false, false) => None,
     }
 }
 
 /// Writes the pieces of a text, up to the first one that cannot be written.
-fn write_pieces<E: Sink>(pieces: &[&[u8]], diagnostics: &mut E) -> Result<(), Fault>
-    ensures { TellsText (E.writer.written diagnostics.old) (E.writer.written diagnostics.new) }
+pub(crate) fn write_pieces<E: Sink>(pieces: &[&[u8]], diagnostics: &mut E) -> Result<(), Fault>
+    ensures told { TellsText (E.writer.written diagnostics.old) (E.writer.written diagnostics.new) }
+    ensures writes { Told (change E.writer diagnostics.old diagnostics.new)
+        (Writes (concat (map (λ piece. piece.now) pieces.now)) (is_err result)) }
 {
     for piece in pieces {
         write_all(diagnostics, piece)?;
@@ -33,7 +63,7 @@ fn write_pieces<E: Sink>(pieces: &[&[u8]], diagnostics: &mut E) -> Result<(), Fa
 }
 
 /// Writes a name with `?` in place of each character that cannot be seen.
-fn write_name<E: Sink>(name: &str, diagnostics: &mut E) -> Result<(), Fault>
+pub(crate) fn write_name<E: Sink>(name: &str, diagnostics: &mut E) -> Result<(), Fault>
     ensures { TellsText (E.writer.written diagnostics.old) (E.writer.written diagnostics.new) }
 {
     let mut bytes = [0u8; 4];
@@ -44,30 +74,31 @@ fn write_name<E: Sink>(name: &str, diagnostics: &mut E) -> Result<(), Fault>
     Ok(())
 }
 
-/// The most rules that `--rules` takes.
-const MAX_RULES: u64 = 1_000_000_000;
-
 /// Returns how to ask for a larger budget, if there is one.
-fn larger_budget(budget: u64) -> &'static str {
+fn larger_budget(budget: u64) -> &'static [u8]
+    ensures { result.now ≡ larger_budget budget }
+{
     if budget < MAX_RULES {
-        "; write --rules N with a larger N, or --no-limit\n"
+        b"; write --rules N with a larger N, or --no-limit"
     } else if budget < MAX_BUDGET {
-        "; write --no-limit\n"
+        b"; write --no-limit"
     } else {
-        "\n"
+        b""
     }
 }
 
 /// Writes that the budget is spent, and how to ask for a larger one.
 fn write_spent<E: Sink>(budget: u64, diagnostics: &mut E) -> Result<(), Fault>
-    ensures { TellsText (E.writer.written diagnostics.old) (E.writer.written diagnostics.new) }
+    ensures { Told (change E.writer diagnostics.old diagnostics.new)
+        (Writes (spent_line budget) (is_err result)) }
 {
     let mut digits = Buffer::new();
     let pieces = [
         b"strc: the budget of ".as_slice(),
         digits.format(budget).as_bytes(),
         b" rules is spent",
-        larger_budget(budget).as_bytes(),
+        larger_budget(budget),
+        b"\n",
     ];
     write_pieces(&pieces, diagnostics)
 }
@@ -82,7 +113,9 @@ struct Excess {
 
 /// Returns the size of a term that did not fit which is reported: its depth where that is too great, and else its weight. Where the weight is
 /// too great, not all parts of the term may have been added up, so that it has at least these sizes.
-fn excess_of(size: &OversizeTerm) -> Excess {
+fn excess_of(size: &OversizeTerm) -> Excess
+    ensures { IsSizeLine (size_line result.measure.now result.size result.most) }
+{
     let OversizeTerm { weight, depth } = *size;
     if depth <= MAX_DEPTH {
         return Excess {
@@ -101,7 +134,8 @@ fn excess_of(size: &OversizeTerm) -> Excess {
 
 /// Writes how large a term was that did not fit.
 pub(crate) fn write_excess<E: Sink>(size: &OversizeTerm, diagnostics: &mut E) -> Result<(), Fault>
-    ensures { TellsText (E.writer.written diagnostics.old) (E.writer.written diagnostics.new) }
+    ensures { (line : List ℕ) × IsSizeLine line ×
+        Told (change E.writer diagnostics.old diagnostics.new) (Writes line (is_err result)) }
 {
     let excess = excess_of(size);
     let (mut size_digits, mut most_digits) = (Buffer::new(), Buffer::new());
@@ -119,7 +153,8 @@ pub(crate) fn write_excess<E: Sink>(size: &OversizeTerm, diagnostics: &mut E) ->
 
 /// Writes how large the term was that did not fit, where that is known.
 fn write_oversize<E: Sink>(notes: &RunNotes, diagnostics: &mut E) -> Result<(), Fault>
-    ensures { TellsText (E.writer.written diagnostics.old) (E.writer.written diagnostics.new) }
+    ensures { (line : List ℕ) × IsSizeLine line ×
+        Told (change E.writer diagnostics.old diagnostics.new) (Writes line (is_err result)) }
 {
     match notes.oversize_term() {
         Some(size) => write_excess(size, diagnostics),
@@ -210,23 +245,50 @@ pub(crate) fn write_remarks<E: Sink>(
     Ok(())
 }
 
-/// Writes what is asked for of a run: why it has no result, warnings, and then what it used. Where a write fails, nothing more is written.
+/// Writes what is to be told of a run: tables of what it did, why it has no result, warnings, and then what it used, if that is asked for.
+/// Where a write fails, nothing more is written.
+fn report_more<E: Sink>(
+    alloc: Global,
+    reporting: Reporting<'_>,
+    notes: &RunNotes,
+    diagnostics: &mut E,
+)
+    ensures { TellsText (E.writer.written diagnostics.old) (E.writer.written diagnostics.new) }
+{
+    if write_rows(reporting, notes.rows(), diagnostics).is_err() {
+        return;
+    }
+    report_remarks(alloc, reporting, notes, diagnostics);
+}
+
+/// Writes why a run has no result, warnings, and then what it used, if that is asked for. Where a write fails, nothing more is written.
+fn report_remarks<E: Sink>(
+    alloc: Global,
+    reporting: Reporting<'_>,
+    notes: &RunNotes,
+    diagnostics: &mut E,
+)
+    ensures { TellsText (E.writer.written diagnostics.old) (E.writer.written diagnostics.new) }
+{
+    if write_remarks(reporting, notes, diagnostics).is_err() {
+        return;
+    }
+    report_numbers(alloc, reporting.output.has_stats, notes, diagnostics);
+}
+
+/// Writes what is to be told of a run of which more is asked than its result.
 fn report_asked<E: Sink>(
     alloc: Global,
     reporting: Reporting<'_>,
     notes: &RunNotes,
     diagnostics: &mut E,
 )
-    ensures { TellsIfAsked (reporting.entry.has_stats || reporting.entry.explains)
+    ensures { TellsIfAsked (asks_more reporting.entry.output)
         (E.writer.written diagnostics.old) (E.writer.written diagnostics.new) }
 {
-    if !reporting.reports_runs() {
-        return;
+    if reporting.reports_runs() {
+        report_more(alloc, reporting, notes, diagnostics);
     }
-    if write_remarks(reporting, notes, diagnostics).is_err() {
-        return;
-    }
-    report_numbers(alloc, reporting.has_stats, notes, diagnostics);
 }
 
 /// Writes the diagnostic line of a refusal of definitions that are checked, and then a line for each remark or, if there are none, what
@@ -238,7 +300,7 @@ pub(crate) fn report_findings<E: Sink>(
     notes: &RunNotes,
     diagnostics: &mut E,
 )
-    ensures { Told E.writer diagnostics.old diagnostics.new (TellsMore fault.now) }
+    ensures { Told (change E.writer diagnostics.old diagnostics.new) (TellsMore fault.now) }
 {
     if notes.explanation().is_none() {
         report_refusal(alloc, fault, reporting, notes, diagnostics);
@@ -257,7 +319,9 @@ fn report_oversize<E: Sink>(
     notes: &RunNotes,
     diagnostics: &mut E,
 )
-    ensures { TellsText (E.writer.written diagnostics.old) (E.writer.written diagnostics.new) }
+    ensures { (line : List ℕ) × IsSizeLine line ×
+        Told (change E.writer diagnostics.old diagnostics.new)
+        (TellsLine line (asks_more reporting.entry.output)) }
 {
     if write_oversize(notes, diagnostics).is_err() {
         return;
@@ -273,7 +337,8 @@ fn report_spent<E: Sink>(
     notes: &RunNotes,
     diagnostics: &mut E,
 )
-    ensures { TellsText (E.writer.written diagnostics.old) (E.writer.written diagnostics.new) }
+    ensures { Told (change E.writer diagnostics.old diagnostics.new)
+        (TellsLine (spent_line budget) (asks_more reporting.entry.output)) }
 {
     if write_spent(budget, diagnostics).is_err() {
         return;
@@ -282,7 +347,8 @@ fn report_spent<E: Sink>(
 }
 
 /// Writes how a transformation with this budget ended: of a refusal the diagnostic line and lines that say more, of a spent budget and of a
-/// term that did not fit one line, and then what is asked for. Results and failures are reported only where more is asked for.
+/// term that did not fit one line, of a failure the warnings about variables, and then what is asked for. A result is reported only where
+/// more is asked for.
 pub(crate) fn report_end<E: Sink>(
     alloc: Global,
     status: &Status,
@@ -291,12 +357,12 @@ pub(crate) fn report_end<E: Sink>(
     notes: &RunNotes,
     diagnostics: &mut E,
 )
-    ensures { Told E.writer diagnostics.old diagnostics.new
-        (IsReportedWith reporting.entry.has_stats reporting.entry.explains status.now) }
+    ensures { Told (change E.writer diagnostics.old diagnostics.new)
+        (IsReported reporting.entry.output budget status.now) }
 {
     match status {
         Status::Rewritten => report_asked(alloc, reporting, notes, diagnostics),
-        Status::Failed => report_asked(alloc, reporting, notes, diagnostics),
+        Status::Failed => report_more(alloc, reporting, notes, diagnostics),
         Status::Refused(fault) => report_refusal(alloc, fault, reporting, notes, diagnostics),
         Status::Oversize => report_oversize(alloc, reporting, notes, diagnostics),
         Status::Spent => report_spent(alloc, budget, reporting, notes, diagnostics),

@@ -6,10 +6,10 @@ ghost use Rattle.prim_registry.specs.Entries.{IsHonest};
 ghost use Rattle.str_pipeline.specs.Setting.{setting_of};
 ghost use Rattle.str_pipeline.specs.Faults.{HoldsRefusal};
 ghost use Rattle.str_pipeline.specs.Limits.{max_definitions, max_term};
-ghost use Rattle.strc_command.specs.Report.{exit_of, IsReportedWith};
+ghost use Rattle.strc_command.specs.Report.{exit_of, IsReported};
 ghost use Rattle.str_pipeline.specs.Joined.{OfJoined};
 ghost use Rattle.str_pipeline.specs.Transformation.{OfTwo};
-ghost use Rattle.strc_command.specs.Runs.{Runs, Told, reads_of};
+ghost use Rattle.strc_command.specs.Runs.{Runs, Told, change, reads_of};
 
 use crate::ending::{notes_for, report_end};
 use crate::failure::Failure;
@@ -33,8 +33,8 @@ fn conclude<E: Sink>(
 ) -> u8
     requires { HoldsRefusal status }
     ensures status { (exit_of status ≡ result) × (result < 4) }
-    ensures told { Told E.writer diagnostics.old diagnostics.new
-        (IsReportedWith reporting.entry.has_stats reporting.entry.explains status) }
+    ensures told { Told (change E.writer diagnostics.old diagnostics.new)
+        (IsReported reporting.entry.output budget status) }
 {
     report_end(alloc, &status, budget, reporting, notes, diagnostics);
     match status {
@@ -61,10 +61,9 @@ pub(crate) fn run_joined<I: Source, W: Sink, E: Sink, M: PrimMeaning>(
     requires honest { IsHonest M.answer registry.now }
     ensures status { result ≤ 4 }
     ensures runs { Runs (OfJoined (I.reader.coming input.old))
-        (reads_of I.reader input.old input.new) W.writer E.writer
-        reporting.entry.form reporting.entry.has_stats reporting.entry.explains
-        (setting_of M.answer registry.now options.now)
-        out.old out.new diagnostics.old diagnostics.new result }
+        (reads_of I.reader input.old input.new) reporting.entry.output
+        (setting_of M.answer registry.now options.now) (change W.writer out.old out.new)
+        (change E.writer diagnostics.old diagnostics.new) result }
     ensures unwritten { result ≡ 4 → W.writer.failed_writes out.new ≡
         W.writer.failed_writes out.old →
         out.new ≡ out.old }
@@ -73,8 +72,8 @@ pub(crate) fn run_joined<I: Source, W: Sink, E: Sink, M: PrimMeaning>(
     ensures bounded { I.reader.reads input.new ≤ I.reader.reads input.old + max_definitions + 7 +
         max_term + 1 }
 {
-    let mut notes = notes_for(reporting);
-    let form = reporting.form;
+    let mut notes = notes_for(alloc, reporting);
+    let form = reporting.output.form;
     match transform_joined_in_form(alloc, keys, input, form, options, registry, &mut notes, out) {
         Ok(status) => conclude(
             alloc,
@@ -113,10 +112,9 @@ pub(crate) fn run_apart<D: Source, T: Source, W: Sink, E: Sink, M: PrimMeaning>(
               D.reader.failed_reads definitions.old + T.reader.failed_reads term.old;
           after =
               D.reader.failed_reads definitions.new + T.reader.failed_reads term.new;
-        }) W.writer E.writer
-        reporting.entry.form reporting.entry.has_stats reporting.entry.explains
-        (setting_of M.answer registry.now options.now)
-        out.old out.new diagnostics.old diagnostics.new result }
+        }) reporting.entry.output
+        (setting_of M.answer registry.now options.now) (change W.writer out.old out.new)
+        (change E.writer diagnostics.old diagnostics.new) result }
     ensures unwritten { result ≡ 4 → W.writer.failed_writes out.new ≡
         W.writer.failed_writes out.old →
         out.new ≡ out.old }
@@ -126,13 +124,13 @@ pub(crate) fn run_apart<D: Source, T: Source, W: Sink, E: Sink, M: PrimMeaning>(
         max_definitions + 1 }
     ensures term_bounded { T.reader.reads term.new ≤ T.reader.reads term.old + max_term + 1 }
 {
-    let mut notes = notes_for(reporting);
+    let mut notes = notes_for(alloc, reporting);
     match transform_in_form(
         alloc,
         keys,
         definitions,
         term,
-        reporting.form,
+        reporting.output.form,
         options,
         registry,
         &mut notes,

@@ -1,9 +1,10 @@
 //! Where the files that a request names are opened.
 ghost use Rattle.std.specs.Prelude.{◌≡◌, map, ℕ, List, IfErr, IfOk};
 ghost use Rattle.str_pipeline.specs.Faults.{IsReadingFault};
+ghost use Rattle.strc_command.specs.Elements.{texts_in};
 ghost use Rattle.strc_command.specs.Files.{AreNamed, IsNamed, path_of, readers_of, texts_at};
 ghost use Rattle.strc_command.specs.Report.{IsUnread};
-ghost use Rattle.strc_command.specs.Runs.{Told};
+ghost use Rattle.strc_command.specs.Runs.{Told, change};
 
 use crate::definition_files::DefinitionFiles;
 use crate::failure::Failure;
@@ -46,7 +47,7 @@ impl<'a> Unopened<'a> {
 /// Returns the file that a word of `--with` names. The fault is `Read` if the place of the installed prelude is not known, or `Memory`.
 fn library_of<P: Paths>(alloc: Global, paths: &mut P, word: &str) -> Result<Library, Fault>
     ensures fault { IfErr result IsReadingFault }
-    ensures named { IfOk result (IsNamed word.now) }
+    ensures named { IfOk result (λ library. IsNamed word.now (path_of library)) }
     ensures kept { (other : List ℕ) → P.text_at paths.new other ≡ P.text_at paths.old other }
 {
     if word != PRELUDE_WORD {
@@ -72,8 +73,9 @@ fn libraries_of<P: Paths>(
     words: &[&str],
 ) -> Result<Vec<Library>, Fault>
     ensures fault { IfErr result IsReadingFault }
+    ensures kept { (other : List ℕ) → P.text_at paths.new other ≡ P.text_at paths.old other }
     ensures named { IfOk result (λ libraries.
-        AreNamed (map (λ word. word.now) words.now) libraries.items) }
+        AreNamed (texts_in words.now) (map path_of libraries.items)) }
 {
     let mut libraries = Vec::new(alloc);
     for word in words {
@@ -91,10 +93,11 @@ pub(crate) fn find_libraries<P: Paths, E: Sink>(
     diagnostics: &mut E,
 ) -> Result<Vec<Library>, u8>
     ensures found { IfOk result (λ libraries. diagnostics.new ≡ diagnostics.old) }
+    ensures kept { (other : List ℕ) → P.text_at paths.new other ≡ P.text_at paths.old other }
     ensures named { IfOk result (λ libraries.
-        AreNamed (map (λ word. word.now) words.now) libraries.items) }
+        AreNamed (texts_in words.now) (map path_of libraries.items)) }
     ensures stopped { IfErr result (λ status. (status ≡ 4) ×
-        Told E.writer diagnostics.old diagnostics.new IsUnread) }
+        Told (change E.writer diagnostics.old diagnostics.new) IsUnread) }
 {
     match libraries_of(alloc, paths, words) {
         Ok(libraries) => Ok(libraries),
@@ -143,7 +146,7 @@ pub(crate) fn open_reader<P: Paths, E: Sink>(
     ensures text { IfOk result (λ reader. P.Reader.reader.coming reader ≡
         P.text_at paths.old path.now) }
     ensures stopped { IfErr result (λ status. (status ≡ 4) ×
-        Told E.writer diagnostics.old diagnostics.new IsUnread) }
+        Told (change E.writer diagnostics.old diagnostics.new) IsUnread) }
     ensures kept { (other : List ℕ) → P.text_at paths.new other ≡ P.text_at paths.old other }
 {
     match paths.open(path) {
@@ -167,9 +170,9 @@ pub(crate) fn open_definitions<P: Paths, E: Sink>(
 ) -> Result<DefinitionFiles<P::Reader>, u8>
     ensures opened { IfOk result (λ files. diagnostics.new ≡ diagnostics.old) }
     ensures texts { IfOk result (λ files. map P.Reader.reader.coming (readers_of files)
-        ≡ texts_at (P.text_at paths.old) libraries.now definitions.now) }
+        ≡ texts_at (P.text_at paths.old) (map path_of libraries.now) definitions.now) }
     ensures stopped { IfErr result (λ status. (status ≡ 4) ×
-        Told E.writer diagnostics.old diagnostics.new IsUnread) }
+        Told (change E.writer diagnostics.old diagnostics.new) IsUnread) }
     ensures kept { (other : List ℕ) → P.text_at paths.new other ≡ P.text_at paths.old other }
 {
     let readers = match open_libraries(alloc, paths, libraries) {

@@ -1,5 +1,6 @@
 //! The standard primitives, and the program over a registry of them.
-ghost use Rattle.std.specs.Prelude.{◌≡◌, ◌+◌, ◌<◌, ◌≤◌, ◌++◌, ◌∷◌, ℤ, [], length, Contains, IsTrue, IfErr, IfOk, IsOkAnd, OnOk};
+ghost use Rattle.std.specs.Prelude.{◌≡◌, ◌+◌, ◌<◌, ◌≤◌, ◌++◌, ◌∷◌, ℤ, None, [], drop, false, length, map, string_bytes, Contains, IsTrue, IfErr, IfOk, IfSome, IsOkAnd, OnOk};
+ghost use Rattle.strc_command.specs.Asked.{asked_of};
 ghost use Rattle.std.specs.Option.{option_map};
 ghost use Rattle.term_model.specs.Flat.{number};
 ghost use Rattle.term_model.specs.declared.fault.Fault.{Fault};
@@ -10,7 +11,7 @@ ghost use Rattle.prim_registry.specs.Values.{answer_of, values_of};
 ghost use Rattle.str_pipeline.specs.Limits.{max_definitions, max_term};
 ghost use Rattle.prim_registry.specs.StandardPrimitives.{is_arithmetic, key_of};
 ghost use Rattle.strc_command.specs.Primitives.{names_of, standard_setting};
-ghost use Rattle.strc_command.specs.Runs.{RunsPlain, Stops};
+ghost use Rattle.strc_command.specs.Runs.{IsDone, RunsJoined, RunsPlain, Stops, WritesText, change, reads_of};
 
 use crate::paths::Paths;
 use crate::program::run;
@@ -71,13 +72,25 @@ pub fn run_standard<P: Paths, I: Source, W: Sink, E: Sink>(
 ) -> u8
     ensures status { result ≤ 5 }
     ensures usage { result ≡ 5 → (out.new ≡ out.old) × (input.new ≡ input.old) }
-    ensures stops { Stops W.writer E.writer out.old out.new diagnostics.old diagnostics.new result }
+    ensures stops { Stops (change W.writer out.old out.new)
+        (change E.writer diagnostics.old diagnostics.new) result }
     ensures bounded { I.reader.reads input.new ≤ I.reader.reads input.old + max_definitions + 7 +
         max_term + 1 }
+    ensures asked { IfOk words.now (λ ws. IfSome (asked_of (map string_bytes (drop 1 ws.items)))
+        (λ asked. IsDone asked (P.text_at paths.old) (I.reader.coming input.old) standard_setting
+        (change W.writer out.old out.new)
+        (change E.writer diagnostics.old diagnostics.new) result)) }
+    ensures joined { IfOk words.now (λ ws. IfSome (asked_of (map string_bytes (drop 1 ws.items)))
+        (λ asked. asked.checks ≡ false → asked.paths ≡ [] →
+        RunsJoined asked (I.reader.coming input.old) (reads_of I.reader input.old input.new)
+        standard_setting (change W.writer out.old out.new)
+        (change E.writer diagnostics.old diagnostics.new) result)) }
+    ensures unasked { IfOk words.now (λ ws. asked_of (map string_bytes (drop 1 ws.items)) ≡ None →
+        result < 4 → (result ≡ 0) × WritesText (change W.writer out.old out.new)) }
     ensures plain { IsOkAnd words.now (λ ws. length ws.items ≤ 1) →
-        RunsPlain I.reader W.writer E.writer
-        standard_setting
-        input.old input.new out.old out.new diagnostics.old diagnostics.new result }
+        RunsPlain (I.reader.coming input.old) (reads_of I.reader input.old input.new)
+        standard_setting (change W.writer out.old out.new)
+        (change E.writer diagnostics.old diagnostics.new) result }
 {
     let mut registry = Registry::<Standard>::new(alloc);
     for primitive in STANDARD {

@@ -1,25 +1,25 @@
 //! The work of the program, over any streams and files.
-ghost use Rattle.std.specs.Prelude.{◌≡◌, ◌+◌, ◌<◌, ◌≤◌, length};
+ghost use Rattle.std.specs.Prelude.{◌≡◌, ◌+◌, ◌<◌, ◌≤◌, ◌∷◌, [], None, drop, false, length, map, string_bytes, IfSome};
 ghost use Rattle.term_model.specs.Limits.{max_budget};
-ghost use Rattle.str_pipeline.specs.declared.status.Status.{Status};
 ghost use Rattle.prim_registry.specs.Entries.{IsHonest};
 ghost use Rattle.str_pipeline.specs.Setting.{setting_of};
-ghost use Rattle.str_pipeline.specs.Faults.{HoldsRefusal};
 ghost use Rattle.str_pipeline.specs.Limits.{max_definitions, max_term};
-ghost use Rattle.strc_command.specs.Files.{texts_at, whole_text};
-ghost use Rattle.strc_command.specs.Report.{exit_of, IsReportedWith};
+ghost use Rattle.strc_command.specs.Asked.{asked_in, asked_of, paths_in};
+ghost use Rattle.strc_command.specs.Elements.{texts_in};
+ghost use Rattle.strc_command.specs.Files.{OfFiles, OfTexts, path_of, texts_at, whole_text};
 ghost use Rattle.strc_command.specs.declared.request.Texts.TheVariants.{Joined};
 ghost use Rattle.str_pipeline.specs.Joined.{OfJoined};
 ghost use Rattle.str_pipeline.specs.Transformation.{OfTwo};
-ghost use Rattle.strc_command.specs.Runs.{IsAnswered, Runs, RunsPlain, Stops, Told, reads_of};
+ghost use Rattle.strc_command.specs.Runs.{IsAnswered, IsDone, Runs, RunsJoined, RunsPlain, Stops, WritesText, change, reads_of};
 
 use crate::checking::run_check;
 use crate::open_streams::{run_apart, run_joined};
 use crate::opening::{find_libraries, open_definitions, open_reader};
 use crate::paths::Paths;
 use crate::report::{INPUT, Reporting};
-use crate::request::{Request, Texts, misuse_of, options_of, request_of};
+use crate::request::{Request, Texts, Unasked, options_of, request_of};
 use crate::stopping::{stop, stop_writing};
+use crate::usage::{error_of, usage_error};
 use crate::version::answer_text;
 use clap::Error;
 use clap::error::ErrorKind;
@@ -47,12 +47,14 @@ fn run_definitions<P: Paths, I: Source, W: Sink, E: Sink, M: PrimMeaning>(
     requires honest { IsHonest M.answer registry.now }
     ensures status { result ≤ 4 }
     ensures ended { result < 4 → IsAnswered
-        (OfTwo (whole_text (texts_at (P.text_at paths.old) reporting.entry.libraries.now
-        reporting.entry.definitions.now)) (I.reader.coming input.old))
-        W.writer E.writer reporting.entry.form reporting.entry.has_stats reporting.entry.explains
-        (setting_of M.answer registry.now options.now)
-        out.old out.new diagnostics.old diagnostics.new result }
-    ensures stops { Stops W.writer E.writer out.old out.new diagnostics.old diagnostics.new result }
+        (OfTwo (whole_text (texts_at (P.text_at paths.old)
+        (map path_of reporting.entry.libraries.now) reporting.entry.definitions.now))
+        (I.reader.coming input.old))
+        reporting.entry.output
+        (setting_of M.answer registry.now options.now) (change W.writer out.old out.new)
+        (change E.writer diagnostics.old diagnostics.new) result }
+    ensures stops { Stops (change W.writer out.old out.new)
+        (change E.writer diagnostics.old diagnostics.new) result }
     ensures bounded { I.reader.reads input.new ≤ I.reader.reads input.old + max_term + 1 }
 {
     let (libraries, path) = (reporting.libraries, reporting.definitions);
@@ -89,12 +91,14 @@ fn run_files<P: Paths, W: Sink, E: Sink, M: PrimMeaning>(
     requires honest { IsHonest M.answer registry.now }
     ensures status { result ≤ 4 }
     ensures ended { result < 4 → IsAnswered
-        (OfTwo (whole_text (texts_at (P.text_at paths.old) reporting.entry.libraries.now
-        reporting.entry.definitions.now)) (P.text_at paths.old reporting.entry.term.now))
-        W.writer E.writer reporting.entry.form reporting.entry.has_stats reporting.entry.explains
-        (setting_of M.answer registry.now options.now)
-        out.old out.new diagnostics.old diagnostics.new result }
-    ensures stops { Stops W.writer E.writer out.old out.new diagnostics.old diagnostics.new result }
+        (OfTwo (whole_text (texts_at (P.text_at paths.old)
+        (map path_of reporting.entry.libraries.now) reporting.entry.definitions.now))
+        (P.text_at paths.old reporting.entry.term.now))
+        reporting.entry.output
+        (setting_of M.answer registry.now options.now) (change W.writer out.old out.new)
+        (change E.writer diagnostics.old diagnostics.new) result }
+    ensures stops { Stops (change W.writer out.old out.new)
+        (change E.writer diagnostics.old diagnostics.new) result }
 {
     let (libraries, path) = (reporting.libraries, reporting.definitions);
     let mut definitions = match open_definitions(alloc, paths, libraries, path, diagnostics) {
@@ -118,14 +122,13 @@ fn run_files<P: Paths, W: Sink, E: Sink, M: PrimMeaning>(
     )
 }
 
-/// Does the work with the file of the definitions at the path, those of the libraries before it, and the term of the file at the other path or
-/// of `input`.
+/// Does the work with the file of the definitions at the path, those in front of it that the request names, and the term of `input`.
 #[tactic(auto, using(crate::proofs::CauseLaws::of_transfer, crate::proofs::CauseLaws::of_reading, crate::proofs::CauseLaws::fault_told))]
-fn run_paths<P: Paths, I: Source, W: Sink, E: Sink, M: PrimMeaning>(
+fn run_with_input<P: Paths, I: Source, W: Sink, E: Sink, M: PrimMeaning>(
     alloc: Global,
     keys: HashKeys,
     request: &Request<'_>,
-    named: (&str, Option<&str>),
+    path: &str,
     paths: &mut P,
     input: &mut I,
     options: &Options,
@@ -136,46 +139,75 @@ fn run_paths<P: Paths, I: Source, W: Sink, E: Sink, M: PrimMeaning>(
     requires budget { options.now.budget ≤ max_budget }
     requires honest { IsHonest M.answer registry.now }
     ensures status { result ≤ 4 }
-    ensures ended { result < 4 → (status : Status) × (exit_of status ≡ result) × HoldsRefusal status
-        × Told E.writer diagnostics.old diagnostics.new
-        (IsReportedWith request.now.has_stats request.now.explains status) }
-    ensures stops { Stops W.writer E.writer out.old out.new diagnostics.old diagnostics.new result }
+    ensures ended { result < 4 → IsAnswered
+        (OfTexts (P.text_at paths.old) (I.reader.coming input.old)
+        (texts_in request.now.libraries.items) (path.now ∷ []))
+        request.now.output
+        (setting_of M.answer registry.now options.now) (change W.writer out.old out.new)
+        (change E.writer diagnostics.old diagnostics.new) result }
+    ensures stops { Stops (change W.writer out.old out.new)
+        (change E.writer diagnostics.old diagnostics.new) result }
     ensures bounded { I.reader.reads input.new ≤ I.reader.reads input.old + max_term + 1 }
 {
-    let (path, term) = named;
     let libraries = match find_libraries(alloc, paths, &request.libraries, diagnostics) {
         Ok(libraries) => libraries,
         Err(status) => return status,
     };
-    match term {
-        None => {
-            let reporting = Reporting::new(request, &libraries, path, INPUT);
-            run_definitions(
-                alloc,
-                keys,
-                paths,
-                input,
-                reporting,
-                options,
-                registry,
-                out,
-                diagnostics,
-            )
-        }
-        Some(term) => {
-            let reporting = Reporting::new(request, &libraries, path, term);
-            run_files(
-                alloc,
-                keys,
-                paths,
-                reporting,
-                options,
-                registry,
-                out,
-                diagnostics,
-            )
-        }
-    }
+    let reporting = Reporting::new(request, &libraries, path, INPUT);
+    run_definitions(
+        alloc,
+        keys,
+        paths,
+        input,
+        reporting,
+        options,
+        registry,
+        out,
+        diagnostics,
+    )
+}
+
+/// Does the same with the file of the term at the other path.
+#[tactic(auto, using(crate::proofs::CauseLaws::of_transfer, crate::proofs::CauseLaws::of_reading, crate::proofs::CauseLaws::fault_told))]
+fn run_with_term<P: Paths, W: Sink, E: Sink, M: PrimMeaning>(
+    alloc: Global,
+    keys: HashKeys,
+    request: &Request<'_>,
+    path: &str,
+    term: &str,
+    paths: &mut P,
+    options: &Options,
+    registry: &Registry<M>,
+    out: &mut W,
+    diagnostics: &mut E,
+) -> u8
+    requires budget { options.now.budget ≤ max_budget }
+    requires honest { IsHonest M.answer registry.now }
+    ensures status { result ≤ 4 }
+    ensures ended { result < 4 → IsAnswered
+        (λ relates. OfFiles (P.text_at paths.old) (texts_in request.now.libraries.items) path.now
+        (λ d. IfSome (P.text_at paths.old term.now) (relates d)))
+        request.now.output
+        (setting_of M.answer registry.now options.now) (change W.writer out.old out.new)
+        (change E.writer diagnostics.old diagnostics.new) result }
+    ensures stops { Stops (change W.writer out.old out.new)
+        (change E.writer diagnostics.old diagnostics.new) result }
+{
+    let libraries = match find_libraries(alloc, paths, &request.libraries, diagnostics) {
+        Ok(libraries) => libraries,
+        Err(status) => return status,
+    };
+    let reporting = Reporting::new(request, &libraries, path, term);
+    run_files(
+        alloc,
+        keys,
+        paths,
+        reporting,
+        options,
+        registry,
+        out,
+        diagnostics,
+    )
 }
 
 /// Does the work with the texts that the request names. A file that cannot be opened is a fault before anything is read.
@@ -195,14 +227,17 @@ fn run_texts<P: Paths, I: Source, W: Sink, E: Sink, M: PrimMeaning>(
     requires honest { IsHonest M.answer registry.now }
     ensures status { result ≤ 4 }
     ensures joined { request.now.texts ≡ Joined → Runs (OfJoined (I.reader.coming input.old))
-        (reads_of I.reader input.old input.new) W.writer E.writer
-        request.now.form request.now.has_stats request.now.explains
-        (setting_of M.answer registry.now options.now)
-        out.old out.new diagnostics.old diagnostics.new result }
-    ensures ended { result < 4 → (status : Status) × (exit_of status ≡ result) × HoldsRefusal status
-        × Told E.writer diagnostics.old diagnostics.new
-        (IsReportedWith request.now.has_stats request.now.explains status) }
-    ensures stops { Stops W.writer E.writer out.old out.new diagnostics.old diagnostics.new result }
+        (reads_of I.reader input.old input.new) request.now.output
+        (setting_of M.answer registry.now options.now) (change W.writer out.old out.new)
+        (change E.writer diagnostics.old diagnostics.new) result }
+    ensures ended { result < 4 → IsAnswered
+        (OfTexts (P.text_at paths.old) (I.reader.coming input.old)
+        (texts_in request.now.libraries.items) (paths_in request.now.texts))
+        request.now.output
+        (setting_of M.answer registry.now options.now) (change W.writer out.old out.new)
+        (change E.writer diagnostics.old diagnostics.new) result }
+    ensures stops { Stops (change W.writer out.old out.new)
+        (change E.writer diagnostics.old diagnostics.new) result }
     ensures bounded { I.reader.reads input.new ≤ I.reader.reads input.old + max_definitions + 7 +
         max_term + 1 }
 {
@@ -220,11 +255,11 @@ fn run_texts<P: Paths, I: Source, W: Sink, E: Sink, M: PrimMeaning>(
                 diagnostics,
             )
         }
-        Texts::Definitions(path) => run_paths(
+        Texts::Definitions(path) => run_with_input(
             alloc,
             keys,
             request,
-            (path, None),
+            path,
             paths,
             input,
             options,
@@ -232,13 +267,13 @@ fn run_texts<P: Paths, I: Source, W: Sink, E: Sink, M: PrimMeaning>(
             out,
             diagnostics,
         ),
-        Texts::Both(path, term) => run_paths(
+        Texts::Both(path, term) => run_with_term(
             alloc,
             keys,
             request,
-            (path, Some(term)),
+            path,
+            term,
             paths,
-            input,
             options,
             registry,
             out,
@@ -247,10 +282,63 @@ fn run_texts<P: Paths, I: Source, W: Sink, E: Sink, M: PrimMeaning>(
     }
 }
 
-/// Tells what is wrong with the words on `diagnostics`, and returns 5; or writes the help text or the version to `out`, as was asked, and
+/// Does what the request asks for: it rewrites the term, or checks the definitions.
+fn run_request<P: Paths, I: Source, W: Sink, E: Sink, M: PrimMeaning>(
+    alloc: Global,
+    keys: HashKeys,
+    request: &Request<'_>,
+    registry: &Registry<M>,
+    paths: &mut P,
+    input: &mut I,
+    out: &mut W,
+    diagnostics: &mut E,
+) -> u8
+    requires budget { request.now.rules ≤ max_budget }
+    requires honest { IsHonest M.answer registry.now }
+    ensures done { IsDone (asked_in request.now) (P.text_at paths.old) (I.reader.coming input.old)
+        (setting_of M.answer registry.now) (change W.writer out.old out.new)
+        (change E.writer diagnostics.old diagnostics.new) result }
+    ensures joined { request.now.checks ≡ false → request.now.texts ≡ Joined →
+        RunsJoined (asked_in request.now) (I.reader.coming input.old)
+        (reads_of I.reader input.old input.new) (setting_of M.answer registry.now)
+        (change W.writer out.old out.new) (change E.writer diagnostics.old diagnostics.new) result }
+    ensures stops { Stops (change W.writer out.old out.new)
+        (change E.writer diagnostics.old diagnostics.new) result }
+    ensures bounded { I.reader.reads input.new ≤ I.reader.reads input.old + max_definitions + 7 +
+        max_term + 1 }
+{
+    let Ok(options) = options_of(alloc, request) else {
+        return stop(&Fault::Memory, diagnostics);
+    };
+    if request.checks {
+        return run_check(
+            alloc,
+            keys,
+            request,
+            paths,
+            input,
+            &options,
+            registry,
+            diagnostics,
+        );
+    }
+    run_texts(
+        alloc,
+        keys,
+        request,
+        paths,
+        input,
+        &options,
+        registry,
+        out,
+        diagnostics,
+    )
+}
+
+/// Says what is wrong with the words on `diagnostics`, and returns 5; or writes the help text or the version to `out`, as was asked, and
 /// returns 0. Next to the version stands what a file that is installed with the program says of it.
 #[tactic(auto, using(crate::proofs::CauseLaws::line_told))]
-fn answer_words<P: Paths, W: Sink, E: Sink>(
+fn answer_error<P: Paths, W: Sink, E: Sink>(
     alloc: Global,
     error: &Error,
     paths: &mut P,
@@ -259,7 +347,9 @@ fn answer_words<P: Paths, W: Sink, E: Sink>(
 ) -> u8
     ensures status { result ≤ 5 }
     ensures usage { result ≡ 5 → out.new ≡ out.old }
-    ensures stops { Stops W.writer E.writer out.old out.new diagnostics.old diagnostics.new result }
+    ensures told { result < 4 → (result ≡ 0) × WritesText (change W.writer out.old out.new) }
+    ensures stops { Stops (change W.writer out.old out.new)
+        (change E.writer diagnostics.old diagnostics.new) result }
 {
     if error.kind() == ErrorKind::OutOfMemory {
         return stop(&Fault::Memory, diagnostics);
@@ -267,7 +357,7 @@ fn answer_words<P: Paths, W: Sink, E: Sink>(
     let Ok(text) = answer_text(alloc, error, paths) else {
         return stop(&Fault::Memory, diagnostics);
     };
-    if error.use_stderr() {
+    if error.use_stderr() || text.is_empty() {
         let _ = write_all(diagnostics, &text);
         let _ = write_all(diagnostics, range_of(error.kind()).as_bytes());
         return 5;
@@ -276,6 +366,29 @@ fn answer_words<P: Paths, W: Sink, E: Sink>(
         return stop_writing(alloc, out, diagnostics);
     }
     0
+}
+
+/// Does the same for words that ask for no run, of which the first is the name of the program.
+fn answer_words<P: Paths, W: Sink, E: Sink>(
+    alloc: Global,
+    words: &[String],
+    paths: &mut P,
+    out: &mut W,
+    diagnostics: &mut E,
+) -> u8
+    ensures status { result ≤ 5 }
+    ensures usage { result ≡ 5 → out.new ≡ out.old }
+    ensures told { result < 4 → (result ≡ 0) × WritesText (change W.writer out.old out.new) }
+    ensures stops { Stops (change W.writer out.old out.new)
+        (change E.writer diagnostics.old diagnostics.new) result }
+{
+    if let Some(error) = error_of(alloc, words) {
+        return answer_error(alloc, &error, paths, out, diagnostics);
+    }
+    if let Ok(text) = usage_error(alloc) {
+        let _ = write_all(diagnostics, text.as_bytes());
+    }
+    5
 }
 
 /// Returns the line that says what `--rules` takes where a value is wrong: it is the only option with a number. Nothing for other errors.
@@ -308,9 +421,8 @@ fn range_of(kind: ErrorKind) -> &'static str {
 /// says how large the budget was that was spent, or how large the term was, if that is known. Where the words ask why there is no result,
 /// lines say it next for 1 and 3, if memory for that was there. Where they ask for the numbers of the run, a line with them comes last
 /// for 0, 1 and 3. For 5 `diagnostics` says what is wrong with the words and, if the parser of the command line refused them, how to get
-/// the help text. A write to `diagnostics` that fails changes nothing. Of these texts no clause says more than the
-/// first line for 2 and 4.
-#[tactic(auto, using(crate::proofs::CauseLaws::line_told, crate::proofs::CauseLaws::of_reading, crate::proofs::CauseLaws::fault_told))]
+/// the help text. A write to `diagnostics` that fails changes nothing.
+#[tactic(auto, using(crate::proofs::CauseLaws::line_told))]
 pub fn run<P: Paths, I: Source, W: Sink, E: Sink, M: PrimMeaning>(
     alloc: Global,
     keys: HashKeys,
@@ -324,46 +436,43 @@ pub fn run<P: Paths, I: Source, W: Sink, E: Sink, M: PrimMeaning>(
     requires honest { IsHonest M.answer registry.now }
     ensures status { result ≤ 5 }
     ensures usage { result ≡ 5 → (out.new ≡ out.old) × (input.new ≡ input.old) }
-    ensures stops { Stops W.writer E.writer out.old out.new diagnostics.old diagnostics.new result }
+    ensures stops { Stops (change W.writer out.old out.new)
+        (change E.writer diagnostics.old diagnostics.new) result }
     ensures bounded { I.reader.reads input.new ≤ I.reader.reads input.old + max_definitions + 7 +
         max_term + 1 }
-    ensures plain { length words.now ≤ 1 → RunsPlain I.reader W.writer E.writer
-        (setting_of M.answer registry.now)
-        input.old input.new out.old out.new diagnostics.old diagnostics.new result }
+    ensures asked { IfSome (asked_of (map string_bytes (drop 1 words.now))) (λ asked.
+        IsDone asked (P.text_at paths.old) (I.reader.coming input.old)
+        (setting_of M.answer registry.now) (change W.writer out.old out.new)
+        (change E.writer diagnostics.old diagnostics.new) result) }
+    ensures joined { IfSome (asked_of (map string_bytes (drop 1 words.now))) (λ asked.
+        asked.checks ≡ false → asked.paths ≡ [] →
+        RunsJoined asked (I.reader.coming input.old)
+        (reads_of I.reader input.old input.new) (setting_of M.answer registry.now)
+        (change W.writer out.old out.new)
+        (change E.writer diagnostics.old diagnostics.new) result) }
+    ensures unasked { asked_of (map string_bytes (drop 1 words.now)) ≡ None → result < 4 →
+        (result ≡ 0) × WritesText (change W.writer out.old out.new) }
+    ensures plain { length words.now ≤ 1 → RunsPlain (I.reader.coming input.old)
+        (reads_of I.reader input.old input.new) (setting_of M.answer registry.now)
+        (change W.writer out.old out.new)
+        (change E.writer diagnostics.old diagnostics.new) result }
 {
     let request = match request_of(alloc, words) {
         Ok(request) => request,
-        Err(error) => return answer_words(alloc, &error, paths, out, diagnostics),
-    };
-    let Ok(options) = options_of(alloc, &request) else {
-        return stop(&Fault::Memory, diagnostics);
-    };
-    if words.len() > 1 {
-        if let Some(text) = misuse_of(&request) {
-            let _ = write_all(diagnostics, text.as_bytes());
+        Err(Unasked::Memory) => return stop(&Fault::Memory, diagnostics),
+        Err(Unasked::Misuse(misuse)) => {
+            let _ = write_all(diagnostics, misuse.text().as_bytes());
             return 5;
         }
-        if request.checks {
-            return run_check(
-                alloc,
-                keys,
-                &request,
-                paths,
-                input,
-                &options,
-                registry,
-                diagnostics,
-            );
-        }
-    }
-    run_texts(
+        Err(Unasked::Words) => return answer_words(alloc, words, paths, out, diagnostics),
+    };
+    run_request(
         alloc,
         keys,
         &request,
+        registry,
         paths,
         input,
-        &options,
-        registry,
         out,
         diagnostics,
     )

@@ -1,13 +1,13 @@
 //! The lines on the diagnostic stream.
-ghost use Rattle.std.specs.Prelude.{◌≡◌, ◌+◌, ◌||◌, OnOk, IfErr, is_err, if◌then◌else◌};
+ghost use Rattle.std.specs.Prelude.{◌≡◌, ◌+◌, OnOk, IfErr, is_err, if◌then◌else◌};
 ghost use Rattle.str_pipeline.specs.Device.{Gains, GainsPrefix};
-ghost use Rattle.strc_command.specs.Report.{place_of, place_text, diagnostic, TellsMore, TellsIfAsked};
-ghost use Rattle.strc_command.specs.Runs.{Told};
+ghost use Rattle.strc_command.specs.Report.{asks_more, place_of, place_text, diagnostic, TellsMore, TellsIfAsked};
+ghost use Rattle.strc_command.specs.Runs.{Told, change};
 
 use crate::failure::Failure;
 use crate::names::shown_name;
 use crate::opening::Library;
-use crate::request::{Form, Request};
+use crate::request::{OutputOptions, Request};
 use itoa::Buffer;
 use std::alloc::{AllocError, Global};
 use str_pipeline::{
@@ -78,8 +78,8 @@ pub(crate) struct FileLine<'a> {
     pub(crate) line: usize,
 }
 
-/// How the end of a transformation is reported: what the texts are called, how far the files of definitions were read, whether the numbers of
-/// the run are reported, whether it is explained why the run has no result, and in which form the result is written.
+/// How the end of a transformation is reported: what the texts are called, how far the files of definitions were read, and which output is
+/// asked for.
 #[derive(Clone, Copy, Drop)]
 pub(crate) struct Reporting<'a> {
     /// The files in front of the definitions.
@@ -88,9 +88,9 @@ pub(crate) struct Reporting<'a> {
     pub(crate) term: &'a str,
     /// How far each file of definitions was read, where they come from files.
     pub(crate) files: &'a [FileProgress],
-    pub(crate) has_stats: bool,
-    pub(crate) explains: bool,
-    pub(crate) form: Form,
+    pub(crate) output: OutputOptions,
+    /// The names of the definitions whose calls are reported.
+    pub(crate) traces: &'a [&'a str],
     /// Whether the strategy to apply has an empty name.
     pub(crate) lacks_name: bool,
 }
@@ -98,32 +98,36 @@ pub(crate) struct Reporting<'a> {
 impl<'a> Reporting<'a> {
     /// Reports as the request asks, over texts that are called so, of which nothing was read.
     pub(crate) fn new(
-        request: &Request<'_>,
+        request: &'a Request<'a>,
         libraries: &'a [Library],
         definitions: &'a str,
         term: &'a str,
     ) -> Reporting<'a>
-        ensures stats { result.has_stats ≡ request.now.has_stats }
-        ensures explains { result.explains ≡ request.now.explains }
-        ensures form { result.form ≡ request.now.form }
+        ensures output { result.output ≡ request.now.output }
+        ensures definitions { result.definitions ≡ definitions.entry }
+        ensures term { result.term ≡ term.entry }
+        ensures libraries { result.libraries ≡ libraries.entry }
     {
         Reporting {
             libraries,
             definitions,
             term,
             files: &[],
-            has_stats: request.has_stats,
-            explains: request.explains,
-            form: request.form,
+            output: request.output,
+            traces: request.traces.as_slice(),
             lacks_name: request.main.is_empty(),
         }
     }
 
     /// Whether anything is reported of a run that was neither refused nor stopped by a limit.
     pub(crate) fn reports_runs(self) -> bool
-        ensures { result ≡ (self.entry.has_stats || self.entry.explains) }
+        ensures { result ≡ asks_more self.entry.output }
     {
-        self.has_stats || self.explains
+        let output = self.output;
+        output.has_stats
+            || (output.explains
+                || (output.has_counts
+                    || (output.has_all_counts || (output.has_profile || output.has_traces))))
     }
 
     /// Returns the file in which a line of the text of all definitions stands, and its number there.
@@ -270,7 +274,7 @@ fn with_hint(
 
 /// Writes the diagnostic line of a fault and, where there is a text that says more, the text. Where a write fails, nothing more is written.
 fn report_with<E: Sink>(fault: &Fault, more: Option<String>, diagnostics: &mut E)
-    ensures { Told E.writer diagnostics.old diagnostics.new (TellsMore fault.now) }
+    ensures { Told (change E.writer diagnostics.old diagnostics.new) (TellsMore fault.now) }
 {
     if report(fault, diagnostics).is_err() {
         return;
@@ -289,7 +293,7 @@ pub(crate) fn report_refusal<E: Sink>(
     notes: &RunNotes,
     diagnostics: &mut E,
 )
-    ensures { Told E.writer diagnostics.old diagnostics.new (TellsMore fault.now) }
+    ensures { Told (change E.writer diagnostics.old diagnostics.new) (TellsMore fault.now) }
 {
     report_with(fault, refusal_lines(alloc, reporting, notes), diagnostics);
 }
@@ -301,7 +305,7 @@ pub(crate) fn report_failure<E: Sink>(
     failure: Failure<'_>,
     diagnostics: &mut E,
 )
-    ensures { Told E.writer diagnostics.old diagnostics.new (TellsMore fault.now) }
+    ensures { Told (change E.writer diagnostics.old diagnostics.new) (TellsMore fault.now) }
 {
     report_with(fault, failure.line(alloc), diagnostics);
 }

@@ -2,7 +2,7 @@
 ghost use Rattle.std.specs.Prelude.{◌≡◌};
 ghost use Rattle.term_model.specs.declared.fault.Fault.TheVariants.{Write};
 ghost use Rattle.strc_command.specs.Report.{AreSome, Failures, Tells, TellsFault, TellsStop};
-ghost use Rattle.strc_command.specs.Runs.{Told};
+ghost use Rattle.strc_command.specs.Runs.{Told, change};
 
 use crate::failure::Failure;
 use crate::report::{report, report_failure};
@@ -14,7 +14,7 @@ use term_model::Fault;
 #[tactic(auto, using(crate::proofs::PrefixLaws::tells))]
 pub(crate) fn stop<E: Sink>(fault: &Fault, diagnostics: &mut E) -> u8
     ensures status { result ≡ 4 }
-    ensures told { Told E.writer diagnostics.old diagnostics.new (Tells fault.now) }
+    ensures told { Told (change E.writer diagnostics.old diagnostics.new) (Tells fault.now) }
 {
     let _ = report(fault, diagnostics);
     4
@@ -29,7 +29,7 @@ pub(crate) fn stop_reading<E: Sink>(
     diagnostics: &mut E,
 ) -> u8
     ensures status { result ≡ 4 }
-    ensures told { Told E.writer diagnostics.old diagnostics.new (TellsFault fault.now) }
+    ensures told { Told (change E.writer diagnostics.old diagnostics.new) (TellsFault fault.now) }
 {
     match fault {
         Fault::Read => {
@@ -44,7 +44,7 @@ pub(crate) fn stop_reading<E: Sink>(
 pub(crate) fn stop_writing<W: Sink, E: Sink>(alloc: Global, out: &W, diagnostics: &mut E) -> u8
     ensures status { result ≡ 4 }
     ensures told { (writes : Failures) → AreSome writes →
-        Told E.writer diagnostics.old diagnostics.new
+        Told (change E.writer diagnostics.old diagnostics.new)
         (TellsStop (W.writer.is_closed out.now) writes Write) }
 {
     if out.is_closed() {
@@ -66,7 +66,7 @@ pub(crate) fn stop_run<W: Sink, E: Sink>(
 ) -> u8
     ensures status { result ≡ 4 }
     ensures told { (writes : Failures) → (fault.now ≡ Write → AreSome writes) →
-        Told E.writer diagnostics.old diagnostics.new
+        Told (change E.writer diagnostics.old diagnostics.new)
         (TellsStop (W.writer.is_closed out.now) writes fault.now) }
 {
     match fault {

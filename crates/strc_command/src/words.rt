@@ -2,7 +2,7 @@
 ghost use Rattle.std.specs.Prelude.{◌≡◌, ◌⊎◌};
 ghost use Rattle.term_model.specs.declared.fault.Fault.TheVariants.{Memory};
 ghost use Rattle.strc_command.specs.Report.{Tells};
-ghost use Rattle.strc_command.specs.Runs.{Told};
+ghost use Rattle.strc_command.specs.Runs.{Told, change};
 
 use crate::stopping::stop;
 use std::env;
@@ -24,7 +24,7 @@ pub fn words_of(runtime: &HostRuntime) -> io::Result<Vec<String>> {
 pub(crate) fn refuse<E: Sink>(kind: ErrorKind, diagnostics: &mut E) -> u8
     ensures status { (result ≡ 4) ⊎ (result ≡ 5) }
     ensures told { result ≡ 4 →
-        Told E.writer diagnostics.old diagnostics.new (Tells Memory) }
+        Told (change E.writer diagnostics.old diagnostics.new) (Tells Memory) }
 {
     if kind != ErrorKind::InvalidData {
         return stop(&Fault::Memory, diagnostics);

@@ -1,35 +1,40 @@
 //! What the words ask for.
 use crate::samples::words_of;
-use clap::error::ErrorKind;
 use std::alloc::{AllocError, Global};
 use std::test::Fail;
-use strc_command::{Form, Texts, request_of};
+use strc_command::{Form, Misuse, OutputOptions, Texts, Unasked, error_of, request_of};
 
 /// What is asked for, with blanks between the words for libraries.
 #[derive(Clone, Copy)]
 struct Wanted {
     rules: u64,
-    has_two_limits: bool,
     main: &'static str,
     is_strict: bool,
-    has_stats: bool,
-    explains: bool,
     checks: bool,
-    form: Form,
+    output: OutputOptions,
     libraries: &'static str,
     texts: Texts<'static>,
 }
 
+/// What is written and reported where nothing more is asked for.
+const PLAIN: OutputOptions = OutputOptions {
+    form: Form::Line,
+    has_stats: false,
+    explains: false,
+    has_counts: false,
+    has_all_counts: false,
+    has_profile: false,
+    has_traces: false,
+    only_failures: false,
+};
+
 /// What is asked for where no word is.
 const JOINED: Wanted = Wanted {
     rules: 1_000_000,
-    has_two_limits: false,
     main: "main",
     is_strict: false,
-    has_stats: false,
-    explains: false,
     checks: false,
-    form: Form::Line,
+    output: PLAIN,
     libraries: "",
     texts: Texts::Joined,
 };
@@ -99,34 +104,37 @@ const REQUESTS: &[(&str, Wanted)] = &[
             ..BOTH
         },
     ),
-    (
-        "strc --no-limit --rules 5",
-        Wanted {
-            rules: 1_000_000_000_000_000_000,
-            has_two_limits: true,
-            ..JOINED
-        },
-    ),
+    ("strc --rules -0", Wanted { rules: 0, ..JOINED }),
+    ("strc --rules +5", Wanted { rules: 5, ..JOINED }),
     ("strc --rules 0007", Wanted { rules: 7, ..JOINED }),
     (
         "strc --stats a.str b.trm",
         Wanted {
-            has_stats: true,
+            output: OutputOptions {
+                has_stats: true,
+                ..PLAIN
+            },
             ..BOTH
         },
     ),
     (
         "strc --explain a.str b.trm",
         Wanted {
-            explains: true,
+            output: OutputOptions {
+                explains: true,
+                ..PLAIN
+            },
             ..BOTH
         },
     ),
     (
         "strc --explain --stats",
         Wanted {
-            has_stats: true,
-            explains: true,
+            output: OutputOptions {
+                has_stats: true,
+                explains: true,
+                ..PLAIN
+            },
             ..JOINED
         },
     ),
@@ -149,7 +157,10 @@ const REQUESTS: &[(&str, Wanted)] = &[
     (
         "strc --raw a.str b.trm",
         Wanted {
-            form: Form::Raw,
+            output: OutputOptions {
+                form: Form::Raw,
+                ..PLAIN
+            },
             ..BOTH
         },
     ),
@@ -163,15 +174,11 @@ const REQUESTS: &[(&str, Wanted)] = &[
     (
         "strc --pretty a.str b.trm",
         Wanted {
-            form: Form::Pretty,
+            output: OutputOptions {
+                form: Form::Pretty,
+                ..PLAIN
+            },
             ..BOTH
-        },
-    ),
-    (
-        "strc --pretty --raw",
-        Wanted {
-            form: Form::RawAndPretty,
-            ..JOINED
         },
     ),
     (
@@ -190,13 +197,9 @@ fn ask_for(alloc: Global, line: &str, wanted: &Wanted) -> Result<bool, Fail> {
     let request = request_of(alloc, &words)?;
     let libraries = words_of(alloc, wanted.libraries)?;
     let are_flags = request.is_strict == wanted.is_strict
-        && request.has_stats == wanted.has_stats
-        && request.explains == wanted.explains
         && request.checks == wanted.checks
-        && request.form == wanted.form;
-    let are_values = request.rules == wanted.rules
-        && request.has_two_limits == wanted.has_two_limits
-        && request.main == wanted.main;
+        && request.output == wanted.output;
+    let are_values = request.rules == wanted.rules && request.main == wanted.main;
     let count = request.libraries.len();
     let are_libraries = if wanted.libraries.is_empty() {
         count == 0
@@ -221,38 +224,116 @@ fn requests(rt: HostRuntime) -> Result<(), Fail> {
     Ok(())
 }
 
-/// Words, and the kind of the error. (Rows of `crates/strc/rows/requests.rows` have its text.)
-const FAULTS: &[(&str, ErrorKind)] = &[
-    ("strc --rules 1000000001", ErrorKind::ValueValidation),
-    ("strc --rules -1", ErrorKind::ValueValidation),
-    ("strc --rules many", ErrorKind::ValueValidation),
-    ("strc --rules  a.str", ErrorKind::ValueValidation),
-    ("strc --rules", ErrorKind::InvalidValue),
-    ("strc --main", ErrorKind::InvalidValue),
-    ("strc --with", ErrorKind::InvalidValue),
-    ("strc --strict=yes", ErrorKind::TooManyValues),
-    ("strc --nope", ErrorKind::UnknownArgument),
-    ("strc --stric", ErrorKind::UnknownArgument),
-    ("strc a b c", ErrorKind::UnknownArgument),
-    ("strc --strict --strict", ErrorKind::ArgumentConflict),
-    ("strc --help --nope", ErrorKind::DisplayHelp),
-    ("strc --version", ErrorKind::DisplayVersion),
+/// Words that ask for no run, and why. (Rows of `crates/strc/rows` have what is said.)
+const REFUSALS: &[(&str, Unasked)] = &[
+    ("strc --rules 1000000001", Unasked::Words),
+    ("strc --rules -1", Unasked::Words),
+    ("strc --rules many", Unasked::Words),
+    ("strc --rules  a.str", Unasked::Words),
+    ("strc --rules", Unasked::Words),
+    ("strc --with --strict a.str", Unasked::Words),
+    ("strc --strict=yes", Unasked::Words),
+    ("strc --stric", Unasked::Words),
+    ("strc -a", Unasked::Words),
+    ("strc a b c", Unasked::Words),
+    ("strc --strict --strict", Unasked::Words),
+    ("strc --main a --main b", Unasked::Words),
+    ("strc --help", Unasked::Words),
+    ("strc --version", Unasked::Words),
+    (
+        "strc --no-limit --rules 5",
+        Unasked::Misuse(Misuse::TwoLimits),
+    ),
+    ("strc --pretty --raw", Unasked::Misuse(Misuse::TwoForms)),
+    ("strc --check --raw a", Unasked::Misuse(Misuse::FormOfCheck)),
+    ("strc --check a b", Unasked::Misuse(Misuse::TermOfCheck)),
+    ("strc --with a", Unasked::Misuse(Misuse::LibrariesAlone)),
+    ("strc --with a a", Unasked::Misuse(Misuse::RepeatedFile)),
 ];
 
-/// Whether the words have an error of this kind.
-fn are_refused(alloc: Global, line: &str, kind: ErrorKind) -> Result<bool, AllocError> {
+/// Whether the words ask for no run, for this reason.
+fn are_refused(alloc: Global, line: &str, why: Unasked) -> Result<bool, AllocError> {
     let words = words_of(alloc, line)?;
     match request_of(alloc, &words) {
         Ok(_) => Ok(false),
-        Err(error) => Ok(error.kind() == kind),
+        Err(unasked) => Ok(unasked == why),
     }
 }
 
 #[test]
-fn faults_of_words(rt: HostRuntime) -> Result<(), Fail> {
-    for (line, kind) in FAULTS {
-        if !are_refused(rt.alloc(), line, *kind)? {
+fn refusals_of_words(rt: HostRuntime) -> Result<(), Fail> {
+    for (line, why) in REFUSALS {
+        if !are_refused(rt.alloc(), line, *why)? {
             return Err(Fail::new(line));
+        }
+    }
+    Ok(())
+}
+
+/// Words that are read in each order, two and two after one of these beginnings.
+const BEGINNINGS: &[&str] = &[
+    "strc ",
+    "strc --rules ",
+    "strc --main ",
+    "strc --with ",
+    "strc -- ",
+];
+
+const WORDS: &[&str] = &[
+    "",
+    "a",
+    "-",
+    "--",
+    "--rules",
+    "--rules=7",
+    "--rules=",
+    "7",
+    "+7",
+    "-7",
+    "-0",
+    "7x",
+    "--main",
+    "--main=x",
+    "--main=",
+    "--with",
+    "--with=-x",
+    "--strict",
+    "--strict=",
+    "--no-limit",
+    "--check",
+    "--raw",
+    "--nope",
+    "--=x",
+    "-h",
+    "--help",
+    "-V",
+    "--version",
+    "-x",
+    "--rules=1000000001",
+    "--explain",
+];
+
+/// Whether these words are found wrong where they are read for a run exactly if they are where the text on them is made.
+fn is_agreed(alloc: Global, line: &str) -> Result<bool, Fail> {
+    let words = words_of(alloc, line)?;
+    let is_wrong = match request_of(alloc, &words) {
+        Err(Unasked::Words) => true,
+        _ => false,
+    };
+    Ok(is_wrong == error_of(alloc, &words).is_some())
+}
+
+#[test]
+fn words_are_read_alike(rt: HostRuntime) -> Result<(), Fail> {
+    let alloc = rt.alloc();
+    for beginning in BEGINNINGS {
+        for first in WORDS {
+            for second in WORDS {
+                let line = format!(in alloc; "{beginning}{first} {second}")?;
+                if !is_agreed(alloc, line.as_str())? {
+                    return Err(Fail::new(first));
+                }
+            }
         }
     }
     Ok(())

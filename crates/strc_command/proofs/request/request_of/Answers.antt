@@ -1,6 +1,11 @@
-use Rattle.strc_command.proofs.RulesLaws.{in_range}
+use Rattle.std.proofs.Common.{◌∙◌, ap, map, option_map, string_bytes, sym, Global}
+use Rattle.strc_command.specs.Elements.{elements_in, elements_of}
+use Rattle.strc_command.proofs.WordLaws.{unasked_by}
 use Rattle.strc_command.proofs.request.request_of.Goals as goal
 
-pub rules_of-requires : goal.rules_of-requires
-rules_of-requires c = in_range c.in_ok-command.field-0 c.in_ok-matches.matches c.in_ok-command.ensures
-    c.in_ok-matches.ensures.parsed
+pub returns-in-Some-clause-unasked : goal.returns-in-Some-clause-unasked
+returns-in-Some-clause-unasked c =
+    unasked_by c.request_by.result _ (elements_in c.in-Some.items)
+    (ap (λ said. elements_of (map (string_bytes {Z = Global}) said)) (sym c.without_name.ensures)
+    ∙ (c.in_ok-items.ensures ∙ ap (option_map elements_in) c.in-Some.is))
+    c.request_by.ensures.unasked
