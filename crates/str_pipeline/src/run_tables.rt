@@ -114,7 +114,7 @@ fn add_tables(
 
 /// Adds the calls that the inquiry asks for.
 fn add_traces<M: PrimMeaning>(
-    record: RunRecord<'_>,
+    run_record: RunRecord<'_>,
     rerun: Rerun<'_>,
     registry: &Registry<M>,
     inquiry: &Inquiry,
@@ -122,20 +122,20 @@ fn add_traces<M: PrimMeaning>(
 ) -> Result<(), Fault>
     requires budget { rerun.budget ≤ max_budget }
     requires honest { IsHonest M.answer registry.now }
-    requires covers { Covers registry.now record.counters.code.now.prims }
+    requires covers { Covers registry.now run_record.counters.code.now.prims }
 {
     if inquiry.traces.is_empty() {
         return Ok(());
     }
     let calls = CallRows {
-        record,
+        record: run_record,
         names: &inquiry.traces,
         only_failures: inquiry.only_failures,
     };
     calls.add_unknown(rows)?;
     let watched = calls.watched()?;
-    let code = record.counters.code;
-    let trace = trace_of(record.alloc, code, rerun, registry, &watched)?;
+    let code = run_record.counters.code;
+    let trace = trace_of(run_record.alloc, code, rerun, registry, &watched)?;
     calls.add_trace(&trace, rows)?;
     Ok(())
 }
