@@ -205,6 +205,33 @@ fn push_first_match(alloc: Global, code: &Code, line: &mut Vec<u8>) -> Result<()
     }
 }
 
+/// The code for counts of these definitions.
+fn counted_code(alloc: Global, definitions: &[u8]) -> Result<Code, Fault> {
+    let core = core_of(alloc, definitions, &PrimNames::new(alloc))?;
+    Ok(compile_for_counts(alloc, &core)?)
+}
+
+/// The account of a run of the code on the term, without primitives.
+fn account_on(alloc: Global, code: &Code, term: Term, budget: u32) -> Result<Account, Fault> {
+    let registry = Registry::<Standard>::new(alloc);
+    if !registry.covers(code.prims()) {
+        return Err(Fault::UnknownPrimitive);
+    }
+    let mut machine = Machine::new(alloc, RcSpace);
+    machine.account(code, term, u64::from(budget), &registry)
+}
+
+/// The text of the counts of an account of the code.
+fn counts_text(alloc: Global, code: &Code, account: &Account) -> Result<Vec<u8>, AllocError> {
+    let mut line = Vec::new(alloc);
+    let (start, _) = starts(code);
+    push_counts(alloc, &account.reached, start, &mut line)?;
+    push_counts(alloc, &account.passed, start, &mut line)?;
+    push_counts(alloc, &account.unfinished, start, &mut line)?;
+    push_first_match(alloc, code, &mut line)?;
+    Ok(line)
+}
+
 /// The text of the counts of a run of these definitions.
 fn counts_of(
     alloc: Global,
@@ -212,22 +239,10 @@ fn counts_of(
     text: &[u8],
     budget: u32,
 ) -> Result<Vec<u8>, Fault> {
-    let core = core_of(alloc, definitions, &PrimNames::new(alloc))?;
-    let code = compile_for_counts(alloc, &core)?;
-    let registry = Registry::<Standard>::new(alloc);
-    if !registry.covers(code.prims()) {
-        return Err(Fault::UnknownPrimitive);
-    }
-    let mut machine = Machine::new(alloc, RcSpace);
+    let code = counted_code(alloc, definitions)?;
     let term = read_term(alloc, text)?;
-    let account = machine.account(&code, term, u64::from(budget), &registry)?;
-    let mut line = Vec::new(alloc);
-    let (start, _) = starts(&code);
-    push_counts(alloc, &account.reached, start, &mut line)?;
-    push_counts(alloc, &account.passed, start, &mut line)?;
-    push_counts(alloc, &account.unfinished, start, &mut line)?;
-    push_first_match(alloc, &code, &mut line)?;
-    Ok(line)
+    let account = account_on(alloc, &code, term, budget)?;
+    Ok(counts_text(alloc, &code, &account)?)
 }
 
 #[test]
@@ -310,6 +325,35 @@ fn trace_text(alloc: Global, trace: &Trace) -> Result<Vec<u8>, AllocError> {
     Ok(line)
 }
 
+/// What is watched of a run of the code: the calls of its second definition.
+fn watched_of(alloc: Global, code: &Code, kept: CallsKept) -> Result<Watched, AllocError> {
+    let entry = match code.entries().get(1) {
+        Some(entry) => [*entry],
+        None => [0],
+    };
+    Ok(Watched {
+        entries: entry.to_vec(alloc)?,
+        alternatives: entry.to_vec(alloc)?,
+        kept,
+    })
+}
+
+/// The trace of a run of the code on the term, without primitives.
+fn trace_on(
+    alloc: Global,
+    code: &Code,
+    term: Term,
+    budget: u32,
+    watched: &Watched,
+) -> Result<Trace, Fault> {
+    let registry = Registry::<Standard>::new(alloc);
+    if !registry.covers(code.prims()) {
+        return Err(Fault::UnknownPrimitive);
+    }
+    let mut machine = Machine::new(alloc, RcSpace);
+    machine.trace(code, &term, u64::from(budget), &registry, watched)
+}
+
 /// The text of the trace of a run of these definitions.
 fn trace_of(
     alloc: Global,
@@ -318,26 +362,10 @@ fn trace_of(
     budget: u32,
     kept: CallsKept,
 ) -> Result<Vec<u8>, Fault> {
-    let core = core_of(alloc, definitions, &PrimNames::new(alloc))?;
-    let code = compile_for_counts(alloc, &core)?;
-    let registry = Registry::<Standard>::new(alloc);
-    if !registry.covers(code.prims()) {
-        return Err(Fault::UnknownPrimitive);
-    }
-    let mut machine = Machine::new(alloc, RcSpace);
+    let code = counted_code(alloc, definitions)?;
+    let watched = watched_of(alloc, &code, kept)?;
     let term = read_term(alloc, text)?;
-    let mut entries = Vec::new(alloc);
-    let mut alternatives = Vec::new(alloc);
-    if let Some(entry) = code.entries().get(1).copied() {
-        entries.push(entry)?;
-        alternatives.push(entry)?;
-    }
-    let watched = Watched {
-        entries,
-        alternatives,
-        kept,
-    };
-    let trace = machine.trace(&code, &term, u64::from(budget), &registry, &watched)?;
+    let trace = trace_on(alloc, &code, term, budget, &watched)?;
     Ok(trace_text(alloc, &trace)?)
 }
 
