@@ -103,6 +103,15 @@ pub record IsTextOfRun (M : Meaning) (code : CodeParts) (t : Tree) (budget : ℕ
   pub is_outcome : IsOutcomeOf M code t budget outcome
   pub is_text : IsTextOf told outcome
 
+-- the outcome of each program that the code stands for, with the text of the term, comes in this number of rules
+pub record IsRulesOfRun (M : Meaning) (code : CodeParts) (t : Tree) (budget : ℕ)
+    (told : Outcome (Vec ℕ Global)) (rules : ℕ) : Type 0 where
+  pub outcome : Outcome Tree
+  pub each : (P : Definitions Name (List Name)) (main : Name) (C : ResolvedDefinitions) (i : ℕ) →
+      StandsFor (code_of code.tables code.instrs) C i →
+      AreOccurring code.prims C → ResolvesProgram P main C i → IsOutcome M P main t budget outcome rules
+  pub is_text : IsTextOf told outcome
+
 -- what is known of the definitions and the term by the outcome of a run, or by the fault in place of one
 abbrev pub IsResult : List ℕ → List ℕ → Setting → Result (Outcome Tree) Fault → Type 0
 IsResult defs term S (Ok outcome) = IsWritten defs term S (status_of outcome) (outcome_line outcome)

@@ -1,10 +1,10 @@
 //! Runs of code, from a term in a space to the text of the term that it rewrites to.
-ghost use Rattle.std.specs.Prelude.{◌≡◌, ◌≤◌, IsTrue, IfOk, IfErr};
+ghost use Rattle.std.specs.Prelude.{◌≡◌, ◌≤◌, IsTrue, IfOk, IfErr, IsSomeAnd};
 ghost use Rattle.term_model.specs.Limits.{max_budget};
 ghost use Rattle.prim_registry.specs.Entries.{IsHonest};
 ghost use Rattle.prim_registry.specs.RegistryNames.{Covers};
 ghost use Rattle.strat_steps.specs.Outcomes.{OutcomeStands, outcome_tree};
-ghost use Rattle.str_pipeline.specs.Steps.{IsTextOf, IsTextOfRun};
+ghost use Rattle.str_pipeline.specs.Steps.{IsRulesOfRun, IsTextOf, IsTextOfRun};
 
 use aterm_text::write_out;
 use core_lang::Outcome;
@@ -50,18 +50,20 @@ pub(crate) fn run_machine<S: TermSpace + Holds + Drop, M: PrimMeaning>(
     requires covers { Covers registry.now code.now.prims }
     ensures outcome { IfOk result (λ told.
         IsTextOfRun M.answer code.now (S.space.term_of space term) budget told) }
+    ensures used { IfOk result (λ told. IsSomeAnd notes.new.used (λ used.
+        IsRulesOfRun M.answer code.now (S.space.term_of space term) budget told used.rules)) }
     ensures fault { IfErr result (λ fault. fault ≡ Fault.Memory) }
 {
     let mut machine = Machine::new(alloc, space);
     let run = machine.run(code, term, budget, registry)?;
+    if let Outcome::Oversize = run.outcome {
+        notes.note_oversize(machine.space().oversize_term());
+    }
     notes.note_run(Used {
         rules: run.rules,
         steps: run.steps,
         shapes: machine.space().shapes(),
     });
-    if let Outcome::Oversize = run.outcome {
-        notes.note_oversize(machine.space().oversize_term());
-    }
     let outcome = in_text(alloc, machine.space(), &run.outcome)?;
     Ok(outcome)
 }

@@ -9,5 +9,14 @@ returns-clause-outcome g c = record {
       rw c.new-machine.ensures at c.in_ok-run.ensures.run P main C i stands occurring resolved,
     );
   };
-  is_text = rw c.space-2.ensures at c.in_ok-outcome.ensures;
+  is_text = rw c.space-3.ensures at c.in_ok-outcome.ensures;
 }
+
+pub returns-clause-used : goal.returns-clause-used
+returns-clause-used g c =
+    rw c.note_run.ensures (record {
+      outcome = _;
+      each = λ P main C i stands occurring resolved.
+          rw c.new-machine.ensures at c.in_ok-run.ensures.run P main C i stands occurring resolved;
+      is_text = rw c.space-3.ensures at c.in_ok-outcome.ensures;
+    })
