@@ -14,7 +14,8 @@ use Rattle.term_model.specs.declared.fault.Fault.{Fault}
 use Rattle.term_model.specs.declared.fault.Fault.TheVariants as faults
 use Rattle.str_pipeline.specs.declared.status.Status.TheVariants.{Refused}
 use Rattle.str_pipeline.specs.Device.{Gains, GainsPrefix}
-use Rattle.str_pipeline.specs.Joined.{IsSplit}
+use Rattle.str_pipeline.specs.Joined.{IsSplit, OfJoinedDefinitions}
+use Rattle.str_pipeline.specs.Verdict.{IsVerdict}
 use Rattle.str_pipeline.specs.Limits.{max_definitions, max_term}
 use Rattle.str_pipeline.specs.Setting.{Setting}
 use Rattle.str_pipeline.specs.Judged.{AreAccepted, IsAccepted}
@@ -149,6 +150,16 @@ of_split (Some told) (Some left) defs rest X split known =
 pub for_each_told : (told : Option (List ℕ)) (X : List ℕ → Type 0) → ((bytes : List ℕ) → X bytes) → IfSome told X
 for_each_told None X known = tt
 for_each_told (Some bytes) X known = known bytes
+
+-- what is judged of the definitions at the split that was found is judged of those at each split
+pub verdict_joined : (S : Setting) (old new : Option (List ℕ)) (defs : List ℕ) (rest : List ℕ → List ℕ)
+    (verdict : Result (Option Fault) Fault) →
+    IfSome old (λ told. IsSomeAnd new (λ left. IsSplit told defs (rest left))) → IfOk verdict (IsVerdict S defs) →
+    IfOk verdict (λ v. OfJoinedDefinitions old (λ d. IsVerdict S d v))
+verdict_joined S old new defs rest (Err fault) split judged = tt
+verdict_joined S old new defs rest (Ok v) split judged =
+    of_split old new defs rest (λ d t. IsVerdict S d v) split
+    (for_each_told new (λ left. IsVerdict S defs v) (λ left. judged))
 
 pub told_then : (told : Option (List ℕ)) (X Y : List ℕ → Type 0) → IfSome told X →
     ((bytes : List ℕ) → X bytes → Y bytes) → IfSome told Y

@@ -1,5 +1,6 @@
 //! The check of definitions without a term.
 ghost use Rattle.std.specs.Prelude.{◌≡◌, ◌+◌, ◌≤◌, length, if◌then◌else◌, false, IfOk, IfErr, IfSome};
+ghost use Rattle.str_pipeline.specs.Joined.{OfJoinedDefinitions};
 ghost use Rattle.str_pipeline.specs.Limits.{max_definitions};
 ghost use Rattle.str_pipeline.specs.Setting.{setting_of};
 ghost use Rattle.str_pipeline.specs.Verdict.{IsVerdict};
@@ -7,6 +8,7 @@ ghost use Rattle.str_pipeline.specs.Faults.{IsReadingFault, is_read_fault};
 
 use crate::answer::MAX_DEFINITIONS;
 use crate::fault_remarks::add_faults;
+use crate::joined::read_front;
 use crate::pipeline::has_no_line;
 use crate::program::{Program, program_to_run};
 use crate::progress::library_bytes;
@@ -57,6 +59,35 @@ pub fn check_definitions<D: Source, M: PrimMeaning>(
     };
     notes.note_library(library_bytes(definitions.files()));
     verdict_on(alloc, keys, &text, options, registry, notes)
+}
+
+/// Does the same with the definitions of the joined form: the bytes before the first line that is `#term`, and all where no such line
+/// comes. What comes after that line is not read. At most 1,048,583 reads are made.
+///
+/// # Errors
+/// As of `check_definitions`.
+pub fn check_joined<S: Source, M: PrimMeaning>(
+    alloc: Global,
+    keys: HashKeys,
+    input: &mut S,
+    options: &Options,
+    registry: &Registry<M>,
+    notes: &mut RunNotes,
+) -> Result<Option<Fault>, Fault>
+    ensures judged { IfOk result (λ verdict. OfJoinedDefinitions (S.reader.coming input.old) (λ d.
+        IsVerdict (setting_of M.answer registry.now options.now) d verdict)) }
+    ensures kinds { IfErr result IsReadingFault }
+    ensures failed { S.reader.failed_reads input.new ≡ S.reader.failed_reads input.old +
+        (if is_read_fault result then 1 else 0) }
+    ensures bounded { S.reader.reads input.new ≤ S.reader.reads input.old + max_definitions + 7 }
+{
+    notes.begin();
+    let Some(front) = read_front(alloc, input, MAX_DEFINITIONS)? else {
+        notes.note_long_definitions();
+        return Ok(Some(Fault::DefsTooLong));
+    };
+    notes.note_library(library_bytes(input.files()));
+    verdict_on(alloc, keys, front.definitions(), options, registry, notes)
 }
 
 /// Judges these definitions. The fault is `Memory`.

@@ -35,7 +35,7 @@ mod usage;
 mod waiting_calls;
 
 pub use answer::{DEFAULT_BUDGET, MAX_BUDGET, MAX_DEFINITIONS, MAX_TERM};
-pub use checking::check_definitions;
+pub use checking::{check_definitions, check_joined};
 pub use counted::Counted;
 pub use diagnostics::{
     Advice, Context, Coverage, Excerpt, Explanation, Hint, HintOnLine, Inquiry, NameHint,

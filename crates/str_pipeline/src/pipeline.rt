@@ -111,6 +111,7 @@ fn outcome_joined<S: Source, M: PrimMeaning>(
     let Some(front) = read_front(alloc, input, MAX_DEFINITIONS)? else {
         return Err(Fault::DefsTooLong);
     };
+    notes.note_library(library_bytes(input.files()));
     let program = program_to_run(alloc, keys, front.definitions(), options, registry, notes)?;
     front.note_end(notes);
     let Some(text) = front.read_term(alloc, input, MAX_TERM)? else {

@@ -38,6 +38,27 @@ pub trait Source {
     }
 }
 
+/// A reader that is lent is one itself.
+impl<S: Source> Source for &mut S {
+    ghost reader = { record {
+      coming = λ s. S.reader.coming s.now;
+      reads = λ s. S.reader.reads s.now;
+      failed_reads = λ s. S.reader.failed_reads s.now;
+    } };
+
+    fn read(&mut self, piece: &mut [u8]) -> Option<usize> {
+        (**self).read(piece)
+    }
+
+    fn failure(&self) -> Option<ErrorKind> {
+        (**self).failure()
+    }
+
+    fn files(&self) -> &[FileProgress] {
+        (**self).files()
+    }
+}
+
 /// The number of bytes that a read asks for.
 pub(crate) const PIECE: usize = 16_384;
 

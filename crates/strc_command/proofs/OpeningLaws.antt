@@ -1,9 +1,10 @@
 -- Laws of files that are opened one after another.
-use Rattle.std.proofs.Common.{◌≡◌, ◌∙◌, ◌<◌, ◌≤◌, ◌+◌, ◌∷◌, ◌++◌, [], ap, refl, subst, ℕ, List, length, map, take, slice_index_or, Bool, false, Result, Ok, Err, is_err}
+use Rattle.std.proofs.Common.{◌≡◌, ◌∙◌, ◌<◌, ◌≤◌, ◌+◌, ◌∷◌, ◌++◌, [], ap, append_assoc, refl, subst, ℕ, List, length, map, take, slice_index_or, Bool, false, Result, Ok, Err, is_err}
 use Rattle.std.specs.Prelude.{if◌then◌else◌, is_ok}
 use Rattle.std.proofs.lemmas.List.{map-append, take_more, take_all}
-use Rattle.std.specs.Prelude.{Option}
-use Rattle.strc_command.specs.Files.{AreNamed, IsNamed, one_more_named, path_of, texts_at, whole_text}
+use Rattle.std.specs.Option.{option_to_list}
+use Rattle.std.specs.Prelude.{Option, None, Some}
+use Rattle.strc_command.specs.Files.{AreNamed, IsNamed, one_more_named, path_of, texts_at, whole_text, with_next}
 use Rattle.strc_command.specs.declared.opening.Library.{Library}
 
 -- one more is opened
@@ -74,3 +75,29 @@ pub with_last : {R A : Type 0} (coming : R → A) (files readers : List R) (last
     map coming files ≡ texts ++ text ∷ []
 with_last coming files readers last texts between text whole so is same =
     rw (whole, map-append coming readers (last ∷ []), so, is, same) refl
+
+next_joins : (a b c : Option (List ℕ)) → with_next (with_next a b) c ≡ with_next a (with_next b c)
+next_joins None b c = refl
+next_joins (Some x) None c = refl
+next_joins (Some x) (Some y) None = refl
+next_joins (Some x) (Some y) (Some z) = simp append_assoc
+
+-- the texts of files, and another text behind them
+front_whole : (text : Option (List ℕ)) (texts : List (Option (List ℕ))) (next : Option (List ℕ)) →
+    with_next (whole_text (text ∷ texts)) next ≡ whole_text (text ∷ texts ++ next ∷ [])
+front_whole text [] next = refl
+front_whole text (other ∷ texts) next =
+    next_joins text (whole_text (other ∷ texts)) next ∙ ap (with_next text) (front_whole other texts next)
+
+pub behind_whole : {R : Type 0} (coming : R → Option (List ℕ)) (current : R) (waiting : List R)
+    (f g : List ℕ → Option (List ℕ)) → ((path : List ℕ) → f path ≡ g path) → (files : List (List ℕ))
+    (next : Option (List ℕ)) → map coming (current ∷ waiting) ≡ map f files →
+    with_next (whole_text (map coming (current ∷ waiting))) next ≡ whole_text (map g files ++ next ∷ [])
+behind_whole coming current waiting f g same files next is =
+    front_whole (coming current) (map coming waiting) next
+    ∙ ap (λ (texts : List (Option (List ℕ))). whole_text (texts ++ next ∷ [])) (is ∙ same_texts f g same files)
+
+-- the last of some values, put behind the others again
+pub last_again : {A : Type 0} (xs front : List A) (last : A) (popped : Option A) → xs ≡ front ++ option_to_list popped →
+    popped ≡ Some last → front ++ last ∷ [] ≡ xs
+last_again xs front last popped whole is = rw (whole, is) refl

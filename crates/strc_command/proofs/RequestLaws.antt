@@ -1,16 +1,18 @@
 -- What few words ask for, and how a run over several texts follows from its parts.
-use Rattle.std.proofs.Common.{◌≡◌, ◌∙◌, ◌≤◌, ◌∷◌, [], arith, refl, subst, sym, ℕ, List, Option, None, Some, length, map, drop}
-use Rattle.std.specs.Prelude.{Err, IfOk, IfSome, Ok, Result, false}
+use Rattle.std.proofs.Common.{◌≡◌, ◌∙◌, ◌≤◌, ◌∷◌, ◌++◌, [], arith, refl, subst, sym, true≢false, ℕ, List, Option, None, Some, length, map, drop}
+use Rattle.std.specs.Prelude.{Err, IfOk, IfSome, IsOk, Ok, Result, false}
+use Rattle.term_model.specs.declared.fault.Fault.{Fault}
 use Rattle.term_model.specs.declared.fault.Fault.TheVariants.{Memory}
 use Rattle.str_pipeline.specs.Device.{Reader, Writer}
+use Rattle.str_pipeline.specs.Joined.{OfJoined, OfJoinedDefinitions}
 use Rattle.str_pipeline.specs.Setting.{Setting}
 use Rattle.str_pipeline.specs.Transformation.{OfTwo}
 use Rattle.str_pipeline.specs.Verdict.{IsVerdict}
 use Rattle.str_pipeline.specs.declared.status.Options.{Options}
 use Rattle.strc_command.specs.Asked.{Asked, asked_of, paths_in, plain_asked}
-use Rattle.strc_command.specs.Files.{AreNamed, OfFiles, texts_at, whole_text}
+use Rattle.strc_command.specs.Files.{AreNamed, Behind, OfFiles, texts_at, whole_text}
 use Rattle.strc_command.specs.Forms.{HasWrittenIn}
-use Rattle.strc_command.specs.Report.{Failures, Tells}
+use Rattle.strc_command.specs.Report.{Failures, Tells, TellsVerdict, exit_of_verdict}
 use Rattle.strc_command.specs.Runs.{Change, Gained, IsAnswered, IsJudged, RunsJoined, RunsPlain, Told, change, reads_of}
 use Rattle.strc_command.specs.declared.request.Form.TheVariants.{Line}
 use Rattle.strc_command.specs.declared.request.OutputOptions.{OutputOptions}
@@ -120,11 +122,57 @@ pub memory_joined_words : {I W E V F : Type 0} (words : Result V F) (asked_by : 
     (coming : Option (List ℕ)) (reader : Reader I) (setting : Options → Setting) (writer : Writer W)
     (stream : Writer E) (input : I) (out : W) (before after : E) (exit : ℕ) → exit ≡ 4 →
     Told (change stream before after) (Tells Memory) → IfOk words (λ said. IfSome (asked_by said) (λ asked.
-    asked.checks ≡ false → asked.paths ≡ [] → RunsJoined asked coming (reads_of reader input input) setting
-    (change writer out out) (change stream before after) exit))
+    asked.checks ≡ false → asked.paths ≡ [] → asked.libraries ≡ [] →
+    RunsJoined asked coming (reads_of reader input input) setting (change writer out out) (change stream before after)
+    exit))
 memory_joined_words {V} (Ok said) asked_by coming reader setting writer stream input out before after exit four told =
-    whatever (asked_by said) (λ asked. asked.checks ≡ false → asked.paths ≡ [] → RunsJoined asked coming
-    (reads_of reader input input) setting (change writer out out) (change stream before after) exit)
-    (λ asked rewrites none. memory_joined asked coming reader setting writer stream input out before after exit four
+    whatever (asked_by said) (λ asked. asked.checks ≡ false → asked.paths ≡ [] → asked.libraries ≡ [] →
+    RunsJoined asked coming (reads_of reader input input) setting (change writer out out) (change stream before after)
+    exit)
+    (λ asked rewrites none alone. memory_joined asked coming reader setting writer stream input out before after exit four
     told)
 memory_joined_words (Err e) asked_by coming reader setting writer stream input out before after exit four told = tt
+
+-- an answer to the text of the input behind files is one to the text of the input behind those that words name
+pub answered_behind : {W E : Type 0} (g : List ℕ → Option (List ℕ)) (whole coming : Option (List ℕ))
+    (words files : List (List ℕ)) (output : OutputOptions) (S : Setting) (out : Change W) (diagnostics : Change E)
+    (exit : ℕ) → AreNamed words files → whole ≡ whole_text (map g files ++ coming ∷ []) →
+    IsAnswered (OfJoined whole) output S out diagnostics exit →
+    IsAnswered (λ relates. Behind g coming words (λ text. OfJoined text relates)) output S out diagnostics exit
+answered_behind g whole coming words files output S out diagnostics exit named is given = (
+  given.0,
+  given.1,
+  given.2,
+  (
+    files,
+    named,
+    subst (λ (text : Option (List ℕ)). OfJoined text (λ d t. Gained out (HasWrittenIn output.form d t S given.0)))
+        is given.3,
+  ),
+  given.4,
+)
+
+-- and so is what is judged of it
+pub judged_behind : {E : Type 0} (g : List ℕ → Option (List ℕ)) (whole coming : Option (List ℕ))
+    (words files : List (List ℕ)) (S : Setting) (diagnostics : Change E) (exit : ℕ) → AreNamed words files →
+    whole ≡ whole_text (map g files ++ coming ∷ []) → IsJudged (OfJoinedDefinitions whole) S diagnostics exit →
+    IsJudged (λ relates. Behind g coming words (λ text. OfJoinedDefinitions text relates)) S diagnostics exit
+judged_behind g whole coming words files S diagnostics exit named is given = (
+  given.0,
+  given.1,
+  (
+    files,
+    named,
+    subst (λ (text : Option (List ℕ)). OfJoinedDefinitions text (λ d. IsVerdict S d given.0)) is given.2,
+  ),
+  given.3,
+)
+
+-- what was judged and reported
+pub judged_told : {E : Type 0} (judged : Result (Option Fault) Fault) (of_definitions : (List ℕ → Type 0) → Type 0)
+    (S : Setting) (diagnostics : Change E) (exit : ℕ) → IsOk judged →
+    IfOk judged (λ verdict. (exit_of_verdict verdict ≡ exit) × Told diagnostics (TellsVerdict verdict)) →
+    IfOk judged (λ verdict. of_definitions (λ d. IsVerdict S d verdict)) →
+    IsJudged of_definitions S diagnostics exit
+judged_told (Ok verdict) of_definitions S diagnostics exit good told judged = (verdict, told.0, judged, told.1)
+judged_told (Err fault) of_definitions S diagnostics exit good told judged = absurd (true≢false (sym good))

@@ -1,7 +1,7 @@
 -- The headline does not rest on this file.
 -- The text of definitions that come from several files.
 use Rattle.std.specs.Prelude.{◌≡◌, ◌≢◌, ℕ, List, [], ◌∷◌, ◌++◌, map, codes, Option, None, Some, IfSome}
-use Rattle.str_pipeline.specs.Joined.{OfJoined}
+use Rattle.str_pipeline.specs.Joined.{OfJoined, OfJoinedDefinitions}
 use Rattle.strc_command.specs.declared.definition_files.DefinitionFiles.{DefinitionFiles}
 use Rattle.strc_command.specs.declared.opening.Library.{Library}
 
@@ -53,17 +53,24 @@ abbrev pub OfFiles : (List ℕ → Option (List ℕ)) → List (List ℕ) → Li
 OfFiles text_at libraries definitions relates = (files : List (List ℕ)) × AreNamed libraries files
     × IfSome (whole_text (texts_at text_at files definitions)) relates
 
--- a relation of the text of the definitions by the paths that are named: without one that text is the input
+-- the text of the files that words name and of the input behind them
+abbrev pub Behind : (List ℕ → Option (List ℕ)) → Option (List ℕ) → List (List ℕ) → (Option (List ℕ) → Type 0) → Type 0
+Behind text_at coming libraries relates = (files : List (List ℕ)) × AreNamed libraries files
+    × relates (whole_text (map text_at files ++ coming ∷ []))
+
+-- a relation of the text of the definitions by the paths that are named: without one they are those of the joined form,
+-- behind the files that words name
 abbrev pub OfDefinitions : (List ℕ → Option (List ℕ)) → Option (List ℕ) → List (List ℕ) → List (List ℕ) →
     (List ℕ → Type 0) → Type 0
-OfDefinitions text_at coming libraries [] relates = IfSome coming relates
+OfDefinitions text_at coming libraries [] relates =
+    Behind text_at coming libraries (λ whole. OfJoinedDefinitions whole relates)
 OfDefinitions text_at coming libraries (definitions ∷ term) relates = OfFiles text_at libraries definitions relates
 
 -- a relation of the texts of the definitions and of the term by the paths that are named: without one the input has
--- both in the joined form, and with one it has the term
+-- both in the joined form, behind the files that words name, and with one it has the term
 abbrev pub OfTexts : (List ℕ → Option (List ℕ)) → Option (List ℕ) → List (List ℕ) → List (List ℕ) →
     (List ℕ → List ℕ → Type 0) → Type 0
-OfTexts text_at coming libraries [] relates = OfJoined coming relates
+OfTexts text_at coming libraries [] relates = Behind text_at coming libraries (λ whole. OfJoined whole relates)
 OfTexts text_at coming libraries (definitions ∷ []) relates =
     OfFiles text_at libraries definitions (λ d. IfSome coming (relates d))
 OfTexts text_at coming libraries (definitions ∷ term ∷ more) relates =

@@ -1,5 +1,7 @@
 //! The check of definitions without a term.
-ghost use Rattle.std.specs.Prelude.{◌≡◌, ◌+◌, ◌<◌, ◌≤◌, map, IfSome};
+ghost use Rattle.std.specs.Prelude.{◌≡◌, ◌+◌, ◌<◌, ◌≤◌, [], map, IfErr, IfOk, IfSome, IsOk};
+ghost use Rattle.str_pipeline.specs.Faults.{IsReadingFault};
+ghost use Rattle.str_pipeline.specs.Joined.{OfJoinedDefinitions};
 ghost use Rattle.str_pipeline.specs.Setting.{setting_of};
 ghost use Rattle.str_pipeline.specs.Limits.{max_definitions};
 ghost use Rattle.strc_command.specs.Asked.{paths_in};
@@ -10,7 +12,8 @@ ghost use Rattle.strc_command.specs.Runs.{IsJudged, Told, change};
 
 use crate::ending::{report_findings, write_remarks};
 use crate::failure::Failure;
-use crate::opening::{find_libraries, open_definitions};
+use crate::joined_files::JoinedFiles;
+use crate::opening::{find_libraries, open_definitions, open_in_front};
 use crate::paths::Paths;
 use crate::report::{INPUT, Reporting};
 use crate::request::{Request, Texts};
@@ -18,7 +21,8 @@ use crate::stopping::stop_reading;
 use keyed_hash::HashKeys;
 use prim_registry::{PrimMeaning, Registry};
 use std::alloc::Global;
-use str_pipeline::{Options, RunNotes, Sink, Source, check_definitions};
+use std::io::ErrorKind;
+use str_pipeline::{Options, RunNotes, Sink, Source, check_definitions, check_joined};
 use term_model::Fault;
 
 /// Reports what was judged of definitions, and returns the exit status: 0, or 2 if they are refused.
@@ -44,8 +48,34 @@ fn conclude_check<E: Sink>(
     }
 }
 
-/// Checks the definitions of the reader, reports what is found, and returns the exit status: 0 if nothing is wrong in them, 2 if they are
-/// refused, and 4 if reading or memory failed.
+/// Reports what was judged of definitions, or the fault that came in place of it, and returns the exit status: 0 if nothing is wrong in them,
+/// 2 if they are refused, and 4 if reading or memory failed.
+fn conclude<E: Sink>(
+    alloc: Global,
+    judged: Result<Option<Fault>, Fault>,
+    reporting: Reporting<'_>,
+    failure: Option<ErrorKind>,
+    notes: &RunNotes,
+    diagnostics: &mut E,
+) -> u8
+    requires { IfErr judged IsReadingFault }
+    ensures status { result ≤ 4 }
+    ensures verdict { IfOk judged (λ verdict. (exit_of_verdict verdict ≡ result) ×
+        Told (change E.writer diagnostics.old diagnostics.new) (TellsVerdict verdict)) }
+    ensures judged { result < 4 → IsOk judged }
+    ensures stopped { result ≡ 4 →
+        Told (change E.writer diagnostics.old diagnostics.new) IsUnread }
+{
+    match judged {
+        Ok(verdict) => conclude_check(alloc, verdict, reporting, notes, diagnostics),
+        Err(fault) => {
+            let reading = Failure::of_reading(reporting, failure, None);
+            stop_reading(alloc, &fault, reading, diagnostics)
+        }
+    }
+}
+
+/// Checks the definitions of the reader, reports what is found, and returns the exit status, as `conclude` does.
 fn check_reader<D: Source, E: Sink, M: PrimMeaning>(
     alloc: Global,
     keys: HashKeys,
@@ -65,23 +95,41 @@ fn check_reader<D: Source, E: Sink, M: PrimMeaning>(
         max_definitions + 1 }
 {
     let mut notes = RunNotes::none();
-    match check_definitions(alloc, keys, definitions, options, registry, &mut notes) {
-        Ok(verdict) => {
-            let reporting = Reporting {
-                files: definitions.files(),
-                ..reporting
-            };
-            conclude_check(alloc, verdict, reporting, &notes, diagnostics)
-        }
-        Err(fault) => {
-            let reporting = Reporting {
-                files: definitions.files(),
-                ..reporting
-            };
-            let reading = Failure::of_reading(reporting, definitions.failure(), None);
-            stop_reading(alloc, &fault, reading, diagnostics)
-        }
-    }
+    let judged = check_definitions(alloc, keys, definitions, options, registry, &mut notes);
+    let reporting = Reporting {
+        files: definitions.files(),
+        ..reporting
+    };
+    let failure = definitions.failure();
+    conclude(alloc, judged, reporting, failure, &notes, diagnostics)
+}
+
+/// Does the same with the definitions of a reader of the joined form.
+fn check_front<I: Source, E: Sink, M: PrimMeaning>(
+    alloc: Global,
+    keys: HashKeys,
+    input: &mut I,
+    reporting: Reporting<'_>,
+    options: &Options,
+    registry: &Registry<M>,
+    diagnostics: &mut E,
+) -> u8
+    ensures status { result ≤ 4 }
+    ensures judged { result < 4 → IsJudged (OfJoinedDefinitions (I.reader.coming input.old))
+        (setting_of M.answer registry.now options.now)
+        (change E.writer diagnostics.old diagnostics.new) result }
+    ensures stopped { result ≡ 4 →
+        Told (change E.writer diagnostics.old diagnostics.new) IsUnread }
+    ensures bounded { I.reader.reads input.new ≤ I.reader.reads input.old + max_definitions + 7 }
+{
+    let mut notes = RunNotes::none();
+    let judged = check_joined(alloc, keys, input, options, registry, &mut notes);
+    let reporting = Reporting {
+        files: input.files(),
+        ..reporting
+    };
+    let failure = input.failure();
+    conclude(alloc, judged, reporting, failure, &notes, diagnostics)
 }
 
 /// Checks the definitions of the files that the report names, which are read as one text. As `check_reader`; a file that cannot be opened is a
@@ -155,8 +203,65 @@ fn check_named<P: Paths, E: Sink, M: PrimMeaning>(
     )
 }
 
-/// Checks the definitions that the request names: those of its files, as one text, and else of `input`, which has nothing but them. As
-/// `check_reader`; a file that cannot be opened is a fault of reading.
+/// Checks the definitions of `input`, those of the joined form, behind the files that the request names.
+fn check_behind<P: Paths, I: Source, E: Sink, M: PrimMeaning>(
+    alloc: Global,
+    keys: HashKeys,
+    request: &Request<'_>,
+    paths: &mut P,
+    input: &mut I,
+    options: &Options,
+    registry: &Registry<M>,
+    diagnostics: &mut E,
+) -> u8
+    ensures status { result ≤ 4 }
+    ensures judged { result < 4 → IsJudged
+        (OfDefinitions (P.text_at paths.old) (I.reader.coming input.old)
+        (texts_in request.now.libraries.items) [])
+        (setting_of M.answer registry.now options.now)
+        (change E.writer diagnostics.old diagnostics.new) result }
+    ensures stopped { result ≡ 4 →
+        Told (change E.writer diagnostics.old diagnostics.new) IsUnread }
+    ensures bounded { I.reader.reads input.new ≤ I.reader.reads input.old + max_definitions + 7 }
+{
+    let libraries = match find_libraries(alloc, paths, &request.libraries, diagnostics) {
+        Ok(libraries) => libraries,
+        Err(status) => return status,
+    };
+    let found = match open_in_front(alloc, paths, &libraries, diagnostics) {
+        Ok(found) => found,
+        Err(status) => return status,
+    };
+    let reporting = Reporting::new(request, &libraries, INPUT, INPUT);
+    let Some(files) = found else {
+        return check_front(
+            alloc,
+            keys,
+            input,
+            reporting,
+            options,
+            registry,
+            diagnostics,
+        );
+    };
+    let mut texts = JoinedFiles {
+        files,
+        is_past: false,
+        last: &mut *input,
+    };
+    check_front(
+        alloc,
+        keys,
+        &mut texts,
+        reporting,
+        options,
+        registry,
+        diagnostics,
+    )
+}
+
+/// Checks the definitions that the request names: those of its files, as one text, and else those of `input` in the joined form, behind such
+/// files. As `check_reader`; a file that cannot be opened is a fault of reading.
 pub(crate) fn run_check<P: Paths, I: Source, E: Sink, M: PrimMeaning>(
     alloc: Global,
     keys: HashKeys,
@@ -175,21 +280,19 @@ pub(crate) fn run_check<P: Paths, I: Source, E: Sink, M: PrimMeaning>(
         (change E.writer diagnostics.old diagnostics.new) result }
     ensures stopped { result ≡ 4 →
         Told (change E.writer diagnostics.old diagnostics.new) IsUnread }
-    ensures bounded { I.reader.reads input.new ≤ I.reader.reads input.old + max_definitions + 1 }
+    ensures bounded { I.reader.reads input.new ≤ I.reader.reads input.old + max_definitions + 7 }
 {
     match request.texts {
-        Texts::Joined => {
-            let reporting = Reporting::new(request, &[], INPUT, INPUT);
-            check_reader(
-                alloc,
-                keys,
-                input,
-                reporting,
-                options,
-                registry,
-                diagnostics,
-            )
-        }
+        Texts::Joined => check_behind(
+            alloc,
+            keys,
+            request,
+            paths,
+            input,
+            options,
+            registry,
+            diagnostics,
+        ),
         Texts::Definitions(path) | Texts::Both(path, _) => check_named(
             alloc,
             keys,

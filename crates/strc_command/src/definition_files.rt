@@ -70,17 +70,20 @@ pub(crate) struct DefinitionFiles<R> {
 }
 
 impl<R: Source + Drop> DefinitionFiles<R> {
-    /// Makes a reader of the files of a library, in their order, and of the file of the definitions after them, with no call counted yet.
+    /// Makes a reader of the files of a library, in their order, and of the file of the definitions after them, with no call counted yet. So
+    /// many texts come behind these files that are noted as files, too.
     pub(crate) fn new(
         alloc: Global,
         libraries: VecDeque<R>,
         definitions: R,
+        behind: usize,
     ) -> Result<DefinitionFiles<R>, AllocError>
         ensures readers { IfOk result (λ f. readers_of f ≡ libraries.items ++ definitions ∷ []) }
         ensures calls { IfOk result (λ f. calls_of f ≡ 0) }
         ensures failures { IfOk result (λ f. failures_of f ≡ 0) }
     {
-        let progress = Progress::new(alloc, libraries.len().saturating_add(1))?;
+        let count = libraries.len().saturating_add(1).saturating_add(behind);
+        let progress = Progress::new(alloc, count)?;
         let mut waiting = libraries;
         let current = match waiting.pop_front() {
             Some(first) => {
@@ -96,6 +99,21 @@ impl<R: Source + Drop> DefinitionFiles<R> {
             failed: Count::new(),
             progress,
         })
+    }
+
+    /// Notes that a line feed comes after the last of the files, and a text behind it.
+    pub(crate) fn note_end(&mut self)
+        ensures { self.new ≡ record self.old { progress = self.new.progress } }
+    {
+        self.progress.note(b"\n");
+        self.progress.advance();
+    }
+
+    /// Notes that these bytes were read of the text behind the files.
+    pub(crate) fn note_behind(&mut self, piece: &[u8])
+        ensures { self.new ≡ record self.old { progress = self.new.progress } }
+    {
+        self.progress.note(piece);
     }
 }
 

@@ -8,6 +8,7 @@ mod ending;
 mod failure;
 mod formed;
 mod items;
+mod joined_files;
 mod laws;
 mod names;
 mod open_streams;

@@ -1,8 +1,8 @@
 //! Where the files that a request names are opened.
-ghost use Rattle.std.specs.Prelude.{◌≡◌, map, ℕ, List, IfErr, IfOk};
+ghost use Rattle.std.specs.Prelude.{◌≡◌, [], map, ℕ, List, IfErr, IfOk, IfSome, MatchOption};
 ghost use Rattle.str_pipeline.specs.Faults.{IsReadingFault};
 ghost use Rattle.strc_command.specs.Elements.{texts_in};
-ghost use Rattle.strc_command.specs.Files.{AreNamed, IsNamed, path_of, readers_of, texts_at};
+ghost use Rattle.strc_command.specs.Files.{AreNamed, IsNamed, calls_of, path_of, readers_of, texts_at};
 ghost use Rattle.strc_command.specs.Report.{IsUnread};
 ghost use Rattle.strc_command.specs.Runs.{Told, change};
 
@@ -183,8 +183,41 @@ pub(crate) fn open_definitions<P: Paths, E: Sink>(
         }
     };
     let last = open_reader(alloc, paths, definitions, diagnostics)?;
-    match DefinitionFiles::new(alloc, readers, last) {
+    match DefinitionFiles::new(alloc, readers, last, 0) {
         Ok(files) => Ok(files),
+        Err(_) => Err(stop(&Fault::Memory, diagnostics)),
+    }
+}
+
+/// Opens the files of libraries, in their order, for a text behind them; nothing where there are none. If one cannot be opened, reports why,
+/// and returns 4 as the error; those after it are not opened.
+#[tactic(auto, using(crate::proofs::CauseLaws::alone_told))]
+pub(crate) fn open_in_front<P: Paths, E: Sink>(
+    alloc: Global,
+    paths: &mut P,
+    libraries: &[Library],
+    diagnostics: &mut E,
+) -> Result<Option<DefinitionFiles<P::Reader>>, u8>
+    ensures opened { IfOk result (λ found. diagnostics.new ≡ diagnostics.old) }
+    ensures texts { IfOk result (λ found. MatchOption found (libraries.now ≡ [])
+        (λ files. map P.Reader.reader.coming (readers_of files)
+        ≡ map (P.text_at paths.old) (map path_of libraries.now))) }
+    ensures calls { IfOk result (λ found. IfSome found (λ files. calls_of files ≡ 0)) }
+    ensures stopped { IfErr result (λ status. (status ≡ 4) ×
+        Told (change E.writer diagnostics.old diagnostics.new) IsUnread) }
+{
+    let mut readers = match open_libraries(alloc, paths, libraries) {
+        Ok(readers) => readers,
+        Err(unopened) => {
+            let Unopened { fault, failure } = unopened;
+            return Err(stop_reading(alloc, &fault, failure, diagnostics));
+        }
+    };
+    let Some(last) = readers.pop_back() else {
+        return Ok(None);
+    };
+    match DefinitionFiles::new(alloc, readers, last, 1) {
+        Ok(files) => Ok(Some(files)),
         Err(_) => Err(stop(&Fault::Memory, diagnostics)),
     }
 }

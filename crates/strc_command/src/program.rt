@@ -13,8 +13,9 @@ ghost use Rattle.str_pipeline.specs.Transformation.{OfTwo};
 ghost use Rattle.strc_command.specs.Runs.{IsAnswered, IsDone, Runs, RunsJoined, RunsPlain, Stops, WritesText, change, reads_of};
 
 use crate::checking::run_check;
+use crate::joined_files::JoinedFiles;
 use crate::open_streams::{run_apart, run_joined};
-use crate::opening::{find_libraries, open_definitions, open_reader};
+use crate::opening::{find_libraries, open_definitions, open_in_front, open_reader};
 use crate::paths::Paths;
 use crate::report::{INPUT, Reporting};
 use crate::request::{Request, Texts, Unasked, options_of, request_of};
@@ -210,6 +211,71 @@ fn run_with_term<P: Paths, W: Sink, E: Sink, M: PrimMeaning>(
     )
 }
 
+/// Does the work with the text of `input` in the joined form, behind the files that the request names.
+#[tactic(auto, using(crate::proofs::CauseLaws::of_transfer, crate::proofs::CauseLaws::of_reading, crate::proofs::CauseLaws::fault_told))]
+fn run_behind<P: Paths, I: Source, W: Sink, E: Sink, M: PrimMeaning>(
+    alloc: Global,
+    keys: HashKeys,
+    request: &Request<'_>,
+    paths: &mut P,
+    input: &mut I,
+    options: &Options,
+    registry: &Registry<M>,
+    out: &mut W,
+    diagnostics: &mut E,
+) -> u8
+    requires budget { options.now.budget ≤ max_budget }
+    requires honest { IsHonest M.answer registry.now }
+    ensures status { result ≤ 4 }
+    ensures ended { result < 4 → IsAnswered
+        (OfTexts (P.text_at paths.old) (I.reader.coming input.old)
+        (texts_in request.now.libraries.items) [])
+        request.now.output
+        (setting_of M.answer registry.now options.now) (change W.writer out.old out.new)
+        (change E.writer diagnostics.old diagnostics.new) result }
+    ensures stops { Stops (change W.writer out.old out.new)
+        (change E.writer diagnostics.old diagnostics.new) result }
+    ensures bounded { I.reader.reads input.new ≤ I.reader.reads input.old + max_definitions + 7 +
+        max_term + 1 }
+{
+    let libraries = match find_libraries(alloc, paths, &request.libraries, diagnostics) {
+        Ok(libraries) => libraries,
+        Err(status) => return status,
+    };
+    let found = match open_in_front(alloc, paths, &libraries, diagnostics) {
+        Ok(found) => found,
+        Err(status) => return status,
+    };
+    let reporting = Reporting::new(request, &libraries, INPUT, INPUT);
+    let Some(files) = found else {
+        return run_joined(
+            alloc,
+            keys,
+            input,
+            reporting,
+            options,
+            registry,
+            out,
+            diagnostics,
+        );
+    };
+    let mut texts = JoinedFiles {
+        files,
+        is_past: false,
+        last: &mut *input,
+    };
+    run_joined(
+        alloc,
+        keys,
+        &mut texts,
+        reporting,
+        options,
+        registry,
+        out,
+        diagnostics,
+    )
+}
+
 /// Does the work with the texts that the request names. A file that cannot be opened is a fault before anything is read.
 #[tactic(auto, using(crate::proofs::CauseLaws::of_transfer, crate::proofs::CauseLaws::of_reading, crate::proofs::CauseLaws::fault_told))]
 fn run_texts<P: Paths, I: Source, W: Sink, E: Sink, M: PrimMeaning>(
@@ -226,7 +292,8 @@ fn run_texts<P: Paths, I: Source, W: Sink, E: Sink, M: PrimMeaning>(
     requires budget { options.now.budget ≤ max_budget }
     requires honest { IsHonest M.answer registry.now }
     ensures status { result ≤ 4 }
-    ensures joined { request.now.texts ≡ Joined → Runs (OfJoined (I.reader.coming input.old))
+    ensures joined { request.now.texts ≡ Joined → texts_in request.now.libraries.items ≡ [] →
+        Runs (OfJoined (I.reader.coming input.old))
         (reads_of I.reader input.old input.new) request.now.output
         (setting_of M.answer registry.now options.now) (change W.writer out.old out.new)
         (change E.writer diagnostics.old diagnostics.new) result }
@@ -242,7 +309,7 @@ fn run_texts<P: Paths, I: Source, W: Sink, E: Sink, M: PrimMeaning>(
         max_term + 1 }
 {
     match request.texts {
-        Texts::Joined => {
+        Texts::Joined if request.libraries.is_empty() => {
             let reporting = Reporting::new(request, &[], INPUT, INPUT);
             run_joined(
                 alloc,
@@ -255,6 +322,17 @@ fn run_texts<P: Paths, I: Source, W: Sink, E: Sink, M: PrimMeaning>(
                 diagnostics,
             )
         }
+        Texts::Joined => run_behind(
+            alloc,
+            keys,
+            request,
+            paths,
+            input,
+            options,
+            registry,
+            out,
+            diagnostics,
+        ),
         Texts::Definitions(path) => run_with_input(
             alloc,
             keys,
@@ -299,7 +377,7 @@ fn run_request<P: Paths, I: Source, W: Sink, E: Sink, M: PrimMeaning>(
         (setting_of M.answer registry.now) (change W.writer out.old out.new)
         (change E.writer diagnostics.old diagnostics.new) result }
     ensures joined { request.now.checks ≡ false → request.now.texts ≡ Joined →
-        RunsJoined (asked_in request.now) (I.reader.coming input.old)
+        texts_in request.now.libraries.items ≡ [] → RunsJoined (asked_in request.now) (I.reader.coming input.old)
         (reads_of I.reader input.old input.new) (setting_of M.answer registry.now)
         (change W.writer out.old out.new) (change E.writer diagnostics.old diagnostics.new) result }
     ensures stops { Stops (change W.writer out.old out.new)
@@ -445,7 +523,7 @@ pub fn run<P: Paths, I: Source, W: Sink, E: Sink, M: PrimMeaning>(
         (setting_of M.answer registry.now) (change W.writer out.old out.new)
         (change E.writer diagnostics.old diagnostics.new) result) }
     ensures joined { IfSome (asked_of (map string_bytes (drop 1 words.now))) (λ asked.
-        asked.checks ≡ false → asked.paths ≡ [] →
+        asked.checks ≡ false → asked.paths ≡ [] → asked.libraries ≡ [] →
         RunsJoined asked (I.reader.coming input.old)
         (reads_of I.reader input.old input.new) (setting_of M.answer registry.now)
         (change W.writer out.old out.new)

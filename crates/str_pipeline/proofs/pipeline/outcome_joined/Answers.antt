@@ -1,4 +1,4 @@
-use Rattle.std.proofs.Common.{◌≡◌, ◌<◌, ◌≤◌, inr, subst, List, ℕ, length, Err}
+use Rattle.std.proofs.Common.{◌≡◌, ◌<◌, ◌≤◌, arith, inr, subst, List, ℕ, length, Err}
 use Rattle.term_model.specs.declared.fault.Fault.TheVariants.{TermTooLong}
 use Rattle.std.proofs.lemmas.Result.{IfErr-weaker}
 use Rattle.str_pipeline.specs.Joined.{IsSplit}
@@ -159,3 +159,8 @@ pub returns-in_err-program-clause-judged_first : goal.returns-in_err-program-cla
 returns-in_err-program-clause-judged_first g c =
     of_refused (setting_of g.M.PrimMeaning.answer c.args.registry.now c.args.options.now)
     (g.S.Source.reader.coming c.args.input.now) _ c.read_front.ensures.early
+
+pub returns-in_err-text-clause-failed : goal.returns-in_err-text-clause-failed
+returns-in_err-text-clause-failed g c =
+    rw (passed c.from_residual-in_err-text.result c.in_err-text.field-0.0 c.from_residual-in_err-text.ensures.1)
+    (omega (arith, c.in_err-text.ensures.failed, c.in_ok-front.ensures.failed))
