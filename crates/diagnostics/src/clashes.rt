@@ -8,8 +8,8 @@ use str_syntax::{Declaration, Name, Section, SignaturePart};
 /// The most bytes of a name that is looked for. A longer one may be cut in the note.
 const LONGEST_NAME: usize = 63;
 
-/// Returns where it is told that a constructor has the name of the strategy at this byte: if one of them stands in a library and the other
-/// behind it, at the other, with the line of the first.
+/// Returns where a constructor is reported that has the name of the strategy at this byte: if one of them stands in a library and the other
+/// after it, at the other, with the line of the first.
 pub(crate) fn clash_place(
     definitions: &RefusedDefinitions<'_>,
     note: &Note,

@@ -11,7 +11,7 @@ use std::alloc::{AllocError, Global};
 /// The most definitions that are named.
 const MOST_NAMED: usize = 5;
 
-/// The names of the first definitions behind the library that have no parameters and that no definition calls or, if all are called, of
+/// The names of the first definitions after the library that have no parameters and that no definition calls or, if all are called, of
 /// the first that have no parameters. Nothing if there are none, or if memory is refused.
 pub(crate) fn entry_points_hint(
     alloc: Global,

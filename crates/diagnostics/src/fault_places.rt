@@ -1,4 +1,4 @@
-//! Where the faults that the checks find are told, and the other places that they are about.
+//! Where the faults that the checks find are reported, and the other places that they are about.
 
 use crate::clashes::clash_place;
 use crate::parameter_lists::parameters_place;
@@ -27,7 +27,7 @@ impl<'a> RefusedDefinitions<'a> {
 /// What stands at another place that a fault is about.
 #[derive(Clone, Copy)]
 pub(crate) enum OtherThing {
-    /// An alternative with these parameters, where the place that is told has others.
+    /// An alternative with these parameters, where the place that is reported has others.
     Parameters { here: Shown, there: Shown },
     /// The declaration of the constructor of this name.
     Constructor(Shown),
@@ -54,7 +54,7 @@ impl fmt::Display for OtherPlace {
     }
 }
 
-/// The byte at which a fault is told, if it has a place, and another place that it is about.
+/// The byte at which a fault is reported, if it has a place, and another place that it is about.
 #[derive(Clone, Copy)]
 pub struct FaultPlace {
     pub offset: Option<u64>,
@@ -71,9 +71,9 @@ impl FaultPlace {
     }
 }
 
-/// Returns where a fault is told that the checks found in the definitions; nothing if another one is told for it. It is told where it
-/// is to be mended: at an alternative whose parameters are not those of most, and in front of a library rather than in it. If memory is
-/// refused, it is told where it was found.
+/// Returns where a fault is reported that the checks found in the definitions; nothing if another one is reported for it. It is reported
+/// where it is to be mended: at an alternative whose parameters are not those of most, and in front of a library rather than in it. If memory
+/// is refused, it is reported where it was found.
 pub fn fault_place(
     alloc: Global,
     definitions: &RefusedDefinitions<'_>,

@@ -55,7 +55,7 @@ pub struct RunNotes {
     used: Option<Used>,
     oversize: Option<OversizeTerm>,
     inquiry: Option<Inquiry>,
-    /// The texts of a run of which more may have to be told.
+    /// The texts of a run of which more may have to be reported.
     definitions: Option<Vec<u8>>,
     term: Option<Vec<u8>>,
     /// How many bytes of the definitions, from the first on, are a library.
@@ -85,9 +85,9 @@ impl RunNotes {
         }
     }
 
-    /// Returns notes in which nothing was noted yet. Of a run is told what the inquiry asks, and of one that fails, or of which tables are
-    /// told, the warnings about variables. For that the program may run again after the answer is written; the texts that this takes are
-    /// kept in memory until then.
+    /// Returns notes in which nothing was noted yet. Of a run what the inquiry asks for is reported; and of one that fails, or of which
+    /// tables are shown, the warnings about variables. For that the program may run again after the answer is written; the texts that this
+    /// takes are kept in memory until then.
     pub fn asking(inquiry: Inquiry) -> RunNotes {
         let mut notes = RunNotes::none();
         notes.inquiry = Some(inquiry);
@@ -156,7 +156,7 @@ impl RunNotes {
         }
     }
 
-    /// Why the run has no result, and warnings, if they are to be told; what a check of definitions found; or nothing if memory for it was
+    /// Why the run has no result, and warnings, if they are to be reported; what a check of definitions found; or nothing if memory for it was
     /// refused.
     pub fn explanation(&self) -> Option<&Explanation> {
         self.explanation.as_ref()
@@ -167,7 +167,7 @@ impl RunNotes {
         self.oversize = size;
     }
 
-    /// Keeps the text of the definitions, if more of the run may have to be told than its result.
+    /// Keeps the text of the definitions, if more of the run may have to be reported than its result.
     pub fn keep_definitions(&mut self, text: Vec<u8>) {
         if self.inquiry.is_some() {
             self.definitions = Some(text);
@@ -286,7 +286,7 @@ impl RunNotes {
         }
     }
 
-    /// Notes what was probably meant in definitions of this text, and returns the byte at which it is told what the checks found in them.
+    /// Notes what was probably meant in definitions of this text, and returns the byte at which what the checks found in them is reported.
     fn note_hint(
         &mut self,
         alloc: Global,

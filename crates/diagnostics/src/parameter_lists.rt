@@ -10,8 +10,8 @@ use str_syntax::Name;
 /// The most alternatives that are compared: as many as a definition may have.
 const MOST_COMPARED: usize = 1000;
 
-/// Returns where it is told that the alternative at this byte has other parameters than the first one of its definition: at the first of
-/// the two that differs from most; nothing if an earlier one is told for it. A library is right, whatever stands behind it.
+/// Returns where the alternative at this byte is reported, which has other parameters than the first one of its definition: at the first of
+/// the two that differs from most; nothing if an earlier one is reported for it. A library is right, whatever comes after it.
 pub(crate) fn parameters_place(
     alloc: Global,
     definitions: &RefusedDefinitions<'_>,
@@ -75,7 +75,7 @@ fn group_at<'a>(
     Ok(Some((group, place)))
 }
 
-/// The index of the first alternative with the parameters that more than half of them have or, if no parameters are those of so many,
+/// The index of the first alternative with the parameters that more than half of them have or, if no parameters are those of that many,
 /// the first one. It is the first one, too, if that stands in a library of this many bytes.
 fn usual_among(group: &[Alternative<'_>], library: usize) -> usize {
     let Some(candidate) = most_frequent(group) else {
@@ -112,7 +112,7 @@ fn most_frequent<'g, 'a>(group: &'g [Alternative<'a>]) -> Option<&'g Alternative
     group.get(candidate)
 }
 
-/// The index of the alternative at which a fault is told that was found at an index, where the one at `usual` is right. If the one at
+/// The index of the alternative at which a fault is reported that was found at an index, where the one at `usual` is right. If the one at
 /// which it was found is right, too, that is one like the first, as many of these before it as there are right ones before the index.
 fn place_to_tell(group: &[Alternative<'_>], found: usize, usual: usize) -> Option<usize> {
     let (own, right, first) = (group.get(found)?, group.get(usual)?, group.first()?);

@@ -337,7 +337,7 @@ impl<'a> Site<'a> {
             .is_some_and(|before| is_mark(before, wanted))
     }
 
-    /// Whether the token at fault stands right behind the one before it, a name or a closing parenthesis.
+    /// Whether the token at fault follows the one before it at once, a name or a closing parenthesis.
     fn touches_before(&self) -> bool {
         match (self.token_before(), self.tokens.get(self.index)) {
             (Some(before), Some(token)) => {

@@ -11,7 +11,7 @@ use signature_core::Signature;
 use std::alloc::{AllocError, Global};
 use str_syntax::{Definition, DefinitionForm, DefinitionHead, File, Origin, Section};
 
-/// The most warnings that are told.
+/// The most warnings that are shown.
 const MOST_TOLD: usize = 100;
 
 /// A warning: the byte of the definitions that it is about, what it says, and the byte of another place whose line ends it.
@@ -130,14 +130,14 @@ fn tell(
     add_count(alloc, warnings.len(), b" warnings", remarks)
 }
 
-/// What is told of a warning.
+/// What is shown of a warning.
 fn text_of(alloc: Global, warning: &Warning) -> Result<Vec<u8>, AllocError> {
     let mut line = b"warning: ".to_vec(alloc)?;
     line.extend_from_slice(&warning.text)?;
     Ok(line)
 }
 
-/// Adds how many of these things there are, if only the first hundred are told. An error is a refused growth; nothing is added then.
+/// Adds how many of these things there are, if only the first hundred are shown. An error is a refused growth; nothing is added then.
 pub fn add_count(
     alloc: Global,
     count: usize,

@@ -16,7 +16,7 @@ const SUSPECTS: usize = 5;
 /// The most rows of those that succeeded, and the most places in a line.
 const LISTED: usize = 50;
 
-/// An alternative that failed more than so many times as often as it succeeded succeeds seldom.
+/// An alternative that failed more than this number of times as often as it succeeded succeeds seldom.
 const SELDOM: u64 = 20;
 
 /// The parts of the table, in their order.

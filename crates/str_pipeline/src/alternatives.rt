@@ -1,7 +1,7 @@
 //! What a run did in each alternative of a definition.
 //!
-//! The code of a definition with several alternatives is one choice. An alternative stands there behind a `Try`, or is one of a chain that
-//! selects share; the last one stands behind all others. Each but the last ends with the `Commit` that takes the choice off.
+//! The code of a definition with several alternatives is one choice. An alternative stands there after a `Try`, or is one of a chain that
+//! selects share; the last one comes after all others. Each but the last ends with the `Commit` that takes the choice off.
 
 use crate::counters::{Counters, Stretch};
 use std::alloc::{AllocError, Global};
@@ -29,7 +29,7 @@ pub(crate) struct AlternativeCounts {
 }
 
 impl AlternativeCounts {
-    /// Returns how often it failed behind the match with which it begins or, if it begins with none, at all.
+    /// Returns how often it failed after the match with which it begins or, if it begins with none, at all.
     pub(crate) fn failures(&self) -> u64 {
         let begun = self.matched.unwrap_or(self.tried);
         begun.saturating_sub(self.succeeded.saturating_add(self.unfinished))
@@ -174,7 +174,7 @@ impl<'a> Walk<'a> {
         self.push(arm, ended.saturating_sub(self.committed), rules)
     }
 
-    /// Adds an alternative that succeeded so often and took so many rules.
+    /// Adds an alternative that succeeded this number of times and took this number of rules.
     fn push(&mut self, arm: Arm, succeeded: u64, rules: u64) -> Result<(), AllocError> {
         let number = self.found.len();
         let offset = self.heads.get(number).copied().unwrap_or(0);

@@ -12,13 +12,13 @@ use strat_machine::{Call, CallResult, CallsKept, Trace, Watched};
 /// The most calls deep that a call is indented.
 const MOST_INDENTED: usize = 20;
 
-/// A trace of a run, and how it is told.
+/// A trace of a run, and how it is shown.
 #[derive(Clone, Copy)]
 pub(crate) struct CallRows<'a> {
     pub(crate) record: RunRecord<'a>,
-    /// The names of the definitions whose calls are told.
+    /// The names of the definitions whose calls are shown.
     pub(crate) names: &'a [Vec<u8>],
-    /// Whether only those that fail are told.
+    /// Whether only those that fail are shown.
     pub(crate) only_failures: bool,
 }
 

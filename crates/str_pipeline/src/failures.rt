@@ -1,10 +1,10 @@
-//! The failures of a run that are told, with the calls that waited.
+//! The failures of a run that are reported, with the calls that waited.
 
 use crate::callers::library_call;
 use crate::causes::Leaf;
 use strat_machine::Stand;
 
-/// Which failure of a run is told.
+/// Which failure of a run is reported.
 #[derive(Clone, Copy, Debug, PartialEq, Eq)]
 pub(crate) enum FailureKind {
     /// The one that nothing caught.
@@ -14,7 +14,7 @@ pub(crate) enum FailureKind {
 }
 
 impl FailureKind {
-    /// What is added to a failure of this kind. It may have come inside a call that is told already.
+    /// What is added to a failure of this kind. It may have come inside a call that is reported already.
     pub(crate) fn note(self, is_inside: bool) -> &'static [u8] {
         match self {
             FailureKind::Deepest => b", the deepest failure before that, and maybe the cause",
@@ -32,7 +32,7 @@ impl FailureKind {
     }
 }
 
-/// A failure that is told: before which instruction the run stood, and the bytes at which the calls stand that waited.
+/// A failure that is reported: before which instruction the run stood, and the bytes at which the calls stand that waited.
 #[derive(Drop)]
 pub(crate) struct Failure<'a> {
     pub(crate) kind: FailureKind,
@@ -45,7 +45,7 @@ pub(crate) struct Failure<'a> {
 }
 
 impl<'a> Failure<'a> {
-    /// The index of the call of DEFS at which it is told, if it came in a file in front of DEFS. These are the first `library` bytes.
+    /// The index of the call of DEFS at which it is reported, if it came in a file in front of DEFS. These are the first `library` bytes.
     pub(crate) fn call_index(&self, library: usize) -> Option<usize> {
         library_call(&self.sites, self.leaf.offset(), library)
     }

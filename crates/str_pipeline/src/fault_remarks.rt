@@ -9,22 +9,22 @@ use std::alloc::{AllocError, Global};
 use str_lexer::{Token, lex};
 use term_model::{Fault, PrimNames};
 
-/// A fault, the index of its note, and where it is told.
+/// A fault, the index of its note, and where it is reported.
 #[derive(Clone, Copy)]
-struct FaultTold<'a> {
+struct PlacedFault<'a> {
     note: &'a Note,
     index: usize,
     place: FaultPlace,
 }
 
-impl FaultTold<'_> {
-    /// The byte at which it is told, and one behind all others where there is none.
+impl PlacedFault<'_> {
+    /// The byte at which it is reported, and one after all others where there is none.
     fn order(&self) -> u64 {
         self.place.offset.unwrap_or(u64::MAX)
     }
 
-    /// Whether the other one is told at the same place for the same reason.
-    fn is_like(&self, other: &FaultTold<'_>) -> bool {
+    /// Whether the other one is reported at the same place for the same reason.
+    fn is_like(&self, other: &PlacedFault<'_>) -> bool {
         let are_moved = self.place.other.is_some() && other.place.other.is_some();
         are_moved && self.place.offset == other.place.offset
     }
@@ -43,9 +43,9 @@ pub(crate) fn add_faults(
         return Ok(());
     }
     let tokens = lex(alloc, definitions.text)?;
-    let told = faults_told(alloc, definitions, notes)?;
-    let mut before: Option<FaultTold<'_>> = None;
-    for fault in &told {
+    let placed = placed_faults(alloc, definitions, notes)?;
+    let mut before: Option<PlacedFault<'_>> = None;
+    for fault in &placed {
         let is_repeated = before.is_some_and(|other| fault.is_like(&other));
         before = Some(*fault);
         if is_repeated {
@@ -65,26 +65,26 @@ pub(crate) fn add_faults(
     Ok(())
 }
 
-/// The faults of these notes, but for those in place of which others are told, in the order of their places.
-fn faults_told<'n>(
+/// The faults of these notes, but for those in place of which others are reported, in the order of their places.
+fn placed_faults<'n>(
     alloc: Global,
     definitions: &RefusedDefinitions<'_>,
     notes: &'n [Note],
-) -> Result<Vec<FaultTold<'n>>, AllocError> {
-    let mut told = Vec::new(alloc);
+) -> Result<Vec<PlacedFault<'n>>, AllocError> {
+    let mut placed = Vec::new(alloc);
     for (index, note) in notes.iter().enumerate() {
         if let Some(place) = fault_place(alloc, definitions, note) {
-            told.push(FaultTold { note, index, place })?;
+            placed.push(PlacedFault { note, index, place })?;
         }
     }
-    told.sort_by_key(|fault| fault.order())?;
-    Ok(told)
+    placed.sort_by_key(|fault| fault.order())?;
+    Ok(placed)
 }
 
 /// Adds a fault at its position, with the other place that it is about if there is one.
 fn add_fault(
     alloc: Global,
-    fault: &FaultTold<'_>,
+    fault: &PlacedFault<'_>,
     position: Position,
     remarks: &mut Vec<Remark>,
 ) -> Result<(), AllocError> {
@@ -105,12 +105,12 @@ fn line_of(other: OtherPlace) -> usize {
     other.line
 }
 
-/// The position at which a fault is told in the text of these tokens. What has no place is at the beginning, behind the library.
+/// The position at which a fault is reported in the text of these tokens. What has no place is at the beginning, after the library.
 fn position_of(
     definitions: &RefusedDefinitions<'_>,
     tokens: &[Token],
     notes: &[Note],
-    fault: &FaultTold<'_>,
+    fault: &PlacedFault<'_>,
 ) -> Position {
     let place = match fault.place.offset {
         Some(at) => Some(at),
@@ -124,7 +124,7 @@ fn position_of(
 }
 
 /// The byte at which the call of an unknown primitive begins, if all calls of this primitive are noted.
-fn call_place(tokens: &[Token], notes: &[Note], fault: &FaultTold<'_>) -> Option<u64> {
+fn call_place(tokens: &[Token], notes: &[Note], fault: &PlacedFault<'_>) -> Option<u64> {
     let Detail::UnknownPrimitive { .. } = fault.note.detail() else {
         return None;
     };
