@@ -65,6 +65,15 @@ impl Checked {
     {
         &self.main
     }
+
+    /// Returns the declarations of the file, and drops its trees.
+    pub fn into_signature(self) -> Signature
+        ensures signature { result ≡ self.declarations }
+        ensures checked { IsChecked (file_of self.file) self.declarations self.main }
+    {
+        let Checked { signature, .. } = self;
+        signature
+    }
 }
 
 /// Judges the file, whose definition `main` is to be run and whose primitives are those of the set, and keeps it with its signature.

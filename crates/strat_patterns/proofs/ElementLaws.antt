@@ -26,7 +26,7 @@ use Rattle.strat_patterns.specs.declared.building.Elements.{Elements}
 use Rattle.strat_patterns.specs.declared.building.Elements.TheVariants as elements
 use Rattle.strat_steps.specs.References.{Places, AllPlaces, AllRefs}
 use Rattle.strat_patterns.proofs.BuildingLaws.{front_end, slice_is}
-use Rattle.strat_steps.proofs.ReferenceSteps.{places_same}
+use Rattle.strat_steps.proofs.ReferenceParts.{places_same}
 use Rattle.strat_patterns.proofs.ReferenceLists.{refs_append, refs_of_all}
 
 -- what was put on a stack

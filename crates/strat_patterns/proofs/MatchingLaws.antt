@@ -24,7 +24,7 @@ use Rattle.strat_steps.specs.Matches.{AreFirst, Goes, LeavesSpace, AllLeaveSpace
 use Rattle.strat_patterns.specs.PlaceStack.{PlaceStack}
 use Rattle.strat_steps.specs.References.{Places, AllPlaces, AllRefs, Binds, binds_none, binds_one}
 use Rattle.strat_steps.proofs.ReferenceLaws.{all_with}
-use Rattle.strat_steps.proofs.ReferenceSteps.{places_same}
+use Rattle.strat_steps.proofs.ReferenceParts.{places_same}
 use Rattle.strat_patterns.proofs.LoadedLaws.{loaded_same}
 use Rattle.strat_patterns.proofs.ReferenceLists.{refs_of_all}
 

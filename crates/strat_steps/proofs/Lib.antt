@@ -13,6 +13,8 @@ pub mod TraversalRows
 pub mod Simulation
 pub mod RunLaws
 pub mod ReferenceLaws
+pub mod ReferenceParts
+pub mod ReferenceEffects
 pub mod ReferenceSteps
 pub mod ReferencesLast
 pub mod CountedLaws
