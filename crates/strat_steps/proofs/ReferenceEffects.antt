@@ -10,7 +10,7 @@ use Rattle.strat_code.specs.Code.{Case, Instr}
 use Rattle.strat_steps.specs.Binding.{trimmed}
 use Rattle.strat_steps.specs.State.{Frame, frame, saved, call_record, choice_record, one_record, some_record, run_spent, stuck, running, ended, frames_up, closed}
 use Rattle.strat_steps.specs.Step.{on_all, on_one, on_some, called_with, selected, cut_to, goes_on, matched, left, returned, effect}
-use Rattle.term_model.specs.Space.{Stands}
+use Rattle.term_model.specs.Space.{Space, Stands}
 use Rattle.strat_steps.specs.References.{Places, RefRecord, RefState, trees, trees_left, record_tree, state_tree, AllRefs}
 use Rattle.strat_steps.specs.ReferenceSteps.{Does, counts, gives_up_so, jumps, matches, matches_not, builds, builds_none, builds_oversize, answers, answers_none, answers_oversize, enters, leaves, leaves_low, extends, shrinks, shrinks_low, calls_closure, ends_argument, ends_definition, ends_definition_low, tries, commits, finishes, sticks, calls, calls_none, calls_oversize, selects, begins_all, begins_one, begins_some, part_of_all, part_of_some, part_of_one, part_of_one_oversize, OnAll, all_goes_on, all_whole, all_oversize, OnOne, one_goes_on, one_none, OnSome, some_goes_on, some_whole, some_oversize, some_none, Selecting, selects_none, selects_this, selects_later, selects_spent}
 use Rattle.strat_steps.specs.Marks.{call_covered, all_covered, choice_covered, one_covered, some_covered, Safe, Holds}

@@ -7,7 +7,6 @@ use Rattle.term_model.specs.Term.{Tree, more}
 use Rattle.core_lang.specs.Environment.{Bindings, empty_places, filled_places}
 use Rattle.strat_steps.specs.Binding.{cleared, undone, above, down_to, trimmed}
 use Rattle.strat_steps.specs.State.{Frame, saved, Record, call_record, choice_record, running, failing}
-use Rattle.strat_steps.specs.Step.{left}
 use Rattle.term_model.specs.Space.{Space, Keeps, GoesBack, IsMark, Stands, Valid, Covers, CoversMark}
 use Rattle.strat_steps.specs.References.{Places, RefRecord, ref_call, ref_choice, ref_all, ref_one, ref_some, trees, trees_after, trees_left, record_tree, AllPlaces, AllRefs, OfRecord, OfRecords, Binds}
 use Rattle.core_lang.specs.Derivation.{parts}

@@ -8,7 +8,7 @@ use Rattle.strat_code.specs.Code.{Code, nodes_of}
 use Rattle.strat_steps.specs.Binding.{undone, above, down_to}
 use Rattle.strat_steps.specs.State.{Frame, saved, run_spent, ended}
 use Rattle.strat_steps.specs.Step.{on_one, on_some_unchanged, effect, performed, next, IsGoing, Steps, no_step, more_steps}
-use Rattle.term_model.specs.Space.{GoesBack, IsMark, Covers}
+use Rattle.term_model.specs.Space.{Space, GoesBack, IsMark, Covers}
 use Rattle.strat_steps.specs.References.{Places, RefRecord, ref_choice, ref_all, ref_one, ref_some, RefState, ref_running, ref_failing, trees, record_tree, state_tree}
 use Rattle.strat_steps.specs.ReferenceSteps.{IsNext, HasNoMore, StepsRef, no_step_ref, more_steps_ref, StepRef, performs, cannot_pay, leaves_code, fails_whole, fails_call, fails_all, fails_choice, fails_one_last, fails_one_next, fails_some_none, fails_some_last, fails_some_next}
 use Rattle.strat_steps.specs.Marks.{Covered, all_covered, choice_covered, one_covered, some_covered, Safe, Holds}

@@ -374,6 +374,8 @@ pattern::patterns-loop-following-preserved t c = rw (c.in_ok-push-2.ensures.item
 pub pattern::patterns-returns : goal.pattern::patterns-returns
 pattern::patterns-returns t c = partly_found (patterns_row _ _) c.loop-following.invariant c.in_default.ensures
 
+-- ---- primary strategies
+
 pub primary::primary-returns-in_default : goal.primary::primary-returns-in_default
 primary::primary-returns-in_default t c = syntax_fault _ c.syntax.ensures (no_primary _ _ c.in_default.ensures)
 
@@ -679,10 +681,6 @@ pub rule::condition-returns : goal.rule::condition-returns
 rule::condition-returns t c =
     rw (c.in-Some.ensures, c.in_ok-new.ensures.ok)
     (made_any (after_where c.args.level) (found_any c.in_ok-part.ensures))
-
--- TEMP HOLES
-
--- Each way that reading can go is a law.
 
 -- ---- strategies before a token
 
