@@ -1,5 +1,5 @@
 //! Runs of code that is followed: what a run did, and where it stood, found by running it again.
-ghost use Rattle.std.specs.Prelude.{◌≤◌};
+ghost use Rattle.std.specs.Prelude.{◌≤◌, IfOk, IsTrue};
 ghost use Rattle.term_model.specs.Limits.{max_budget};
 ghost use Rattle.prim_registry.specs.Entries.{IsHonest};
 ghost use Rattle.prim_registry.specs.RegistryNames.{Covers};
@@ -109,7 +109,35 @@ fn call_stand<M: PrimMeaning>(
     }
 }
 
-/// The account of a run of the code on the term of this text.
+/// A machine, and the term of a text in its space.
+#[derive(Drop)]
+struct Started<S: TermSpace + Drop> {
+    machine: Machine<S>,
+    term: S::Ref,
+}
+
+/// Makes a machine over this space, into which it reads the term of this text.
+fn start<S: TermSpace + Drop>(alloc: Global, space: S, text: &[u8]) -> Result<Started<S>, Fault>
+    ensures stands { IfOk result (λ started.
+        IsTrue (S.space.stands started.machine started.term)) }
+{
+    let mut space = space;
+    let term = read_in(&mut space, alloc, text)?;
+    Ok(Started {
+        machine: Machine::new(alloc, space),
+        term,
+    })
+}
+
+/// Starts a run that is followed, in a space of its own.
+fn start_again(alloc: Global, rerun: Rerun<'_>) -> Result<Started<FollowedSpace>, Fault>
+    ensures stands { IfOk result (λ started.
+        IsTrue (⟦<FollowedSpace as TermSpace>⟧.space.stands started.machine started.term)) }
+{
+    start(alloc, FollowedSpace::new(alloc, rerun.keys), rerun.term)
+}
+
+/// Returns the account of a run of the code on the term of this text.
 pub(crate) fn account_of<M: PrimMeaning>(
     alloc: Global,
     code: &Code,
@@ -120,29 +148,13 @@ pub(crate) fn account_of<M: PrimMeaning>(
     requires honest { IsHonest M.answer registry.now }
     requires covers { Covers registry.now code.now.prims }
 {
-    let space = FollowedSpace::new(alloc, rerun.keys);
-    account_in(alloc, space, code, rerun, registry)
+    let mut started = start_again(alloc, rerun)?;
+    started
+        .machine
+        .account(code, started.term, rerun.budget, registry)
 }
 
-/// The account of such a run in this space.
-fn account_in<S: TermSpace + Drop, M: PrimMeaning>(
-    alloc: Global,
-    space: S,
-    code: &Code,
-    rerun: Rerun<'_>,
-    registry: &Registry<M>,
-) -> Result<Account, Fault>
-    requires budget { rerun.budget ≤ max_budget }
-    requires honest { IsHonest M.answer registry.now }
-    requires covers { Covers registry.now code.now.prims }
-{
-    let mut space = space;
-    let term = read_in(&mut space, alloc, rerun.term)?;
-    let mut machine = Machine::new(alloc, space);
-    machine.account(code, term, rerun.budget, registry)
-}
-
-/// Where such a run stands after this number of steps, if an instruction comes next.
+/// Returns where such a run stands after this number of steps, if an instruction comes next.
 pub(crate) fn stand_after<M: PrimMeaning>(
     alloc: Global,
     code: &Code,
@@ -154,27 +166,10 @@ pub(crate) fn stand_after<M: PrimMeaning>(
     requires honest { IsHonest M.answer registry.now }
     requires covers { Covers registry.now code.now.prims }
 {
-    let space = FollowedSpace::new(alloc, rerun.keys);
-    stand_in(alloc, space, code, rerun, registry, count)
-}
-
-/// Where such a run in this space stands after this number of steps.
-fn stand_in<S: TermSpace + Drop, M: PrimMeaning>(
-    alloc: Global,
-    space: S,
-    code: &Code,
-    rerun: Rerun<'_>,
-    registry: &Registry<M>,
-    count: u64,
-) -> Result<Option<Stand>, Fault>
-    requires budget { rerun.budget ≤ max_budget }
-    requires honest { IsHonest M.answer registry.now }
-    requires covers { Covers registry.now code.now.prims }
-{
-    let mut space = space;
-    let term = read_in(&mut space, alloc, rerun.term)?;
-    let mut machine = Machine::new(alloc, space);
-    machine.stand(code, term, rerun.budget, registry, count)
+    let mut started = start_again(alloc, rerun)?;
+    started
+        .machine
+        .stand(code, started.term, rerun.budget, registry, count)
 }
 
 /// Returns the calls of the definitions that are watched in such a run.
@@ -189,25 +184,8 @@ pub(crate) fn trace_of<M: PrimMeaning>(
     requires honest { IsHonest M.answer registry.now }
     requires covers { Covers registry.now code.now.prims }
 {
-    let space = FollowedSpace::new(alloc, rerun.keys);
-    trace_in(alloc, space, code, rerun, registry, watched)
-}
-
-/// Returns the calls of the definitions that are watched in such a run in this space.
-fn trace_in<S: TermSpace + Drop, M: PrimMeaning>(
-    alloc: Global,
-    space: S,
-    code: &Code,
-    rerun: Rerun<'_>,
-    registry: &Registry<M>,
-    watched: &Watched,
-) -> Result<Trace, Fault>
-    requires budget { rerun.budget ≤ max_budget }
-    requires honest { IsHonest M.answer registry.now }
-    requires covers { Covers registry.now code.now.prims }
-{
-    let mut space = space;
-    let term = read_in(&mut space, alloc, rerun.term)?;
-    let mut machine = Machine::new(alloc, space);
-    machine.trace(code, &term, rerun.budget, registry, watched)
+    let mut started = start_again(alloc, rerun)?;
+    started
+        .machine
+        .trace(code, &started.term, rerun.budget, registry, watched)
 }
