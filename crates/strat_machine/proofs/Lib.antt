@@ -3,6 +3,7 @@ pub mod ChargeLaws
 pub mod AccountLaws
 pub mod OutcomeLaws
 pub mod MachineLaws
+pub mod LoadedLaws
 pub mod StackLaws
 pub mod StepLaws
 pub mod OpenedLaws

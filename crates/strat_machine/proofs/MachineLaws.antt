@@ -5,6 +5,7 @@ use Rattle.term_model.specs.Flat.{Meaning}
 use Rattle.term_model.specs.PrimNames.{NameKey}
 use Rattle.term_model.specs.Space.{Space, Keeps, KeepsNames, MakesNone}
 use Rattle.term_model.specs.Term.{Tree}
+use Rattle.term_model.proofs.SpaceLaws.{keeps_then, none_then}
 use Rattle.core_lang.specs.declared.run.Outcome.{Outcome}
 use Rattle.core_lang.specs.declared.run.Run.{Run}
 use Rattle.core_lang.specs.Named.{Name}
@@ -35,6 +36,17 @@ module _ {W R Y N : Type 0} {S : Space W R Y N} {w w1 w2 : W} (keeps : Keeps S w
   pub ran : MakesNone S w w1 → {code : Code} {M : Meaning} {t : R} {budget : ℕ} (left : ℕ) (run : Run R) →
       StepsRef S code M run.steps w1 (start_ref t budget) w2 (end_ref run.outcome left) → Ran S code M w t budget w2 run
   ran none left run x = record { loaded = w1; kept = keeps; none = none; left = left; steps = x }
+
+  -- the same of a run whose code was loaded before it
+  pub ran_loaded : MakesNone S w w1 → {code : Code} {M : Meaning} {t : R} {budget : ℕ} {run : Run R} →
+      Ran S code M w1 t budget w2 run → Ran S code M w t budget w2 run
+  ran_loaded none x = record {
+    loaded = x.loaded;
+    kept = keeps_then keeps x.kept;
+    none = none_then none x.none;
+    left = x.left;
+    steps = x.steps;
+  }
 
 -- the same outcome of an equal term, with an equal number of rules
 pub same_outcome : (M : Meaning) (P : Definitions Name (List Name)) (main : Name) (budget : ℕ) (o : Outcome Tree)

@@ -9,6 +9,7 @@ pub mod Entered
 pub mod Running
 pub mod Tables
 pub mod Actions
+pub mod LoadedCode
 pub mod Indexing
 pub mod Calculating
 pub mod Accounts

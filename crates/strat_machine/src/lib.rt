@@ -11,6 +11,7 @@ mod flat_values;
 mod index;
 mod instructions;
 mod left_sides;
+mod loaded;
 mod machine;
 mod partial;
 mod patterns;
@@ -34,5 +35,6 @@ mod variables;
 
 pub use explaining::{Account, Ending, Stand};
 pub use left_sides::first_match;
+pub use loaded::Loaded;
 pub use machine::Machine;
 pub use tracing::{Call, CallResult, CallsKept, Reach, Trace, Watched};

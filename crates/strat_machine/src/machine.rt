@@ -18,8 +18,8 @@ ghost use Rattle.prim_registry.specs.Registered.{meaning_of};
 ghost use Rattle.term_model.specs.Results.{Returns};
 
 use crate::explaining::{Account, Stand, account_of, stand_after};
+use crate::loaded::Loaded;
 use crate::program::load_program;
-use crate::running::run_code;
 use crate::stacks::Stacks;
 use crate::tracing::{Trace, Watched, trace_of};
 use core_lang::Run;
@@ -34,7 +34,7 @@ use term_model::{Fault, Term, TermSpace};
 pub struct Machine<S: TermSpace + Drop> {
     alloc: Global,
     space: S,
-    /// Clear between runs. Their memory is kept.
+    /// Those of accounts, traces and stands. Clear between them; their memory is kept.
     stacks: Stacks<S::Ref, S::Mark>,
 }
 
@@ -120,19 +120,9 @@ impl<S: TermSpace + Drop> Machine<S> {
         ensures fault { IfErr result (λ fault. fault ≡ Fault.Memory) }
     {
         let space = &mut self.space;
-        let program = load_program(space, self.alloc, code, registry)?;
-        let run = run_code(
-            space,
-            self.alloc,
-            &mut self.stacks,
-            code,
-            &program,
-            registry,
-            term,
-            budget,
-        );
-        self.stacks.clear();
-        Ok(run?)
+        let mut loaded = Loaded::new(space, self.alloc, code, registry)?;
+        let run = loaded.run(space, self.alloc, code, term, budget, registry)?;
+        Ok(run)
     }
 
     /// Runs the code on the term within a budget of rules, and returns an account of the run: how many rules the instruction
