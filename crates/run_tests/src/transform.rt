@@ -1,4 +1,5 @@
 //! What no clause says: test vectors and whole runs.
+mod after_libraries;
 mod annotation_rows;
 mod bombs;
 mod complaints;

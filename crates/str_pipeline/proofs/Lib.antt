@@ -1,3 +1,4 @@
+pub mod AfterLaws
 pub mod CheckLaws
 pub mod CutLemmas
 pub mod DeviceLemmas

@@ -1,5 +1,5 @@
 -- Definitions and the text of a term have at most one line and one status in a setting.
-use Rattle.std.proofs.Common.{◌≡◌, ℕ, ◌<◌, ◌≤◌, Bool, List, length, refl, sym, ◌∙◌, ap, subst, arith, inl, inr, Ok, Err, Result, Vec, Global, Option, Some, None, IfSome, IsSomeAnd, true, false, ◌++◌, codes}
+use Rattle.std.proofs.Common.{◌≡◌, ℕ, ◌<◌, ◌≤◌, Bool, List, length, refl, sym, ◌∙◌, ap, subst, arith, inl, inr, Ok, Err, Result, Vec, Global, Option, Some, None, IfSome, true, false, ◌++◌, codes}
 use Rattle.term_model.specs.declared.fault.Fault.{Fault}
 use Rattle.term_model.specs.declared.fault.Fault.TheVariants.{Memory, Read, DefsTooLong, Lexical, ReservedWord, Syntax, Nesting, TermTooLong, TermOversize, TermSyntax, TermUndeclared}
 use Rattle.term_model.specs.Fault.{number_of, word_of}
@@ -21,14 +21,12 @@ use Rattle.str_parser.specs.Lexemes.{lexemes}
 use Rattle.str_parser.specs.Phrases.{IsPhrase, TooNested}
 use Rattle.strategy_lib.specs.Library.{with_library}
 use Rattle.scope_check.specs.Complaint.{first_fault}
-use Rattle.str_pipeline.specs.Joined.{IsSplit, OfJoinedDefinitions}
 use Rattle.str_pipeline.specs.Limits.{max_definitions, max_term}
 use Rattle.str_pipeline.specs.Setting.{Setting}
 use Rattle.str_pipeline.specs.Judged.{HasNoTokens, AreTokens, AreTooNested, HasNoPhrase, IsFile, FailsChecks, PassesChecks, AreRefused, AreAccepted, IsTerm, IsUndeclared, IsRefused, IsAccepted}
 use Rattle.str_pipeline.specs.Written.{Rewrites, IsAnswer, IsFirstFault, IsWritten, line_of, refusal_line}
 use Rattle.str_pipeline.specs.Alike.{AreAlike}
 use Rattle.str_pipeline.specs.Steps.{IsTextResult}
-use Rattle.str_pipeline.proofs.WrittenLaws.{of_split, for_each_told}
 
 -- ---- refusals of definitions
 
@@ -183,30 +181,10 @@ never_refused S None defs f Y same accepted = tt
 never_refused S (Some d) defs f Y same accepted =
     λ fault refused. absurd (no_file (cause_of S defs fault (rw same refused)) accepted)
 
--- nor those of each split of what a reader told, where these are the definitions of one
-pub none_refused_joined : (S : Setting) (old new : Option (List ℕ)) (defs : List ℕ) (rest : List ℕ →
-    List ℕ) (f : FileTree) (Y : Type 0) →
-    IfSome old (λ told. IsSomeAnd new (λ left. IsSplit told defs (rest left))) → AreAccepted S defs f →
-    IfSome old (λ told. (d t : List ℕ) → IsSplit told d t → (fault : Fault) → AreRefused S d fault → Y)
-none_refused_joined S old new defs rest f Y split accepted =
-    of_split old new defs rest (λ d t. (fault : Fault) → AreRefused S d fault → Y) split
-    (for_each_told new (λ left. (fault : Fault) → AreRefused S defs fault → Y)
-    (λ left fault refused. absurd (no_file (cause_of S defs fault refused) accepted)))
-
-pub never_refused_joined : (S : Setting) (old new : Option (List ℕ)) (defs : List ℕ) (rest : List ℕ → List ℕ)
-    (f : FileTree) (Y : List ℕ → Type 0) →
-    IfSome old (λ told. IsSomeAnd new (λ left. IsSplit told defs (rest left))) → AreAccepted S defs f →
-    OfJoinedDefinitions old (λ d. (fault : Fault) → AreRefused S d fault → Y d)
-never_refused_joined S old new defs rest f Y split accepted =
-    of_split old new defs rest (λ d t. (fault : Fault) → AreRefused S d fault → Y d) split
-    (for_each_told new (λ left. (fault : Fault) → AreRefused S defs fault → Y defs)
-    (λ left fault refused. absurd (no_file (cause_of S defs fault refused) accepted)))
-
--- what holds of all definitions holds of those that are refused
-pub of_refused : (S : Setting) (told : Option (List ℕ)) (Y : List ℕ → Type 0) → OfJoinedDefinitions told Y →
-    OfJoinedDefinitions told (λ d. (fault : Fault) → AreRefused S d fault → Y d)
-of_refused S None Y known = tt
-of_refused S (Some told) Y known = λ d t split fault refused. known d t split
+-- definitions are not refused and accepted
+pub not_both : (S : Setting) (defs : List ℕ) (f : FileTree) (fault : Fault) → AreAccepted S defs f →
+    AreRefused S defs fault → ⊥
+not_both S defs f fault accepted refused = no_file (cause_of S defs fault refused) accepted
 
 -- what refused definitions come to with one text of a term they come to with each
 pub whatever_the_term : (S : Setting) (d t u : List ℕ) (fault : Fault)
@@ -225,12 +203,6 @@ whatever_the_term S d t u fault (Err Read) refused known = tt
 whatever_the_term S d t u fault (Err _) refused (inl first) = inl first
 whatever_the_term S d t u fault (Err _) refused (inr (f, accepted, later)) =
     absurd (no_file (cause_of S d fault refused) accepted)
-
--- what holds of numbers holds whatever the reader told
-pub within_told : (S : Setting) (told : Option (List ℕ)) (n m : ℕ) → n ≤ m →
-    IfSome told (λ bytes. (d t : List ℕ) → IsSplit bytes d t → (fault : Fault) → AreRefused S d fault → n ≤ m)
-within_told S None n m h = tt
-within_told S (Some bytes) n m h = λ d t split fault refused. h
 
 -- they are those of one file
 one_file : {S : Setting} {defs : List ℕ} {f g : FileTree} → AreAccepted S defs f → AreAccepted S defs g → f ≡ g

@@ -9,12 +9,11 @@ use Rattle.str_desugar.specs.FileProgram.{program_of_file}
 use Rattle.signature_core.specs.Signature.{Declared, declarations_of}
 use Rattle.signature_core.specs.DeclaredTerm.{term_is_declared}
 use Rattle.core_lang.specs.Named.{written}
-use Rattle.std.specs.Prelude.{Option, None, Some, IfSome, IsSomeAnd, IsErrAnd, Result, Err}
+use Rattle.std.specs.Prelude.{Option, None, Some, IfSome, IsErrAnd, Result, Err}
 use Rattle.term_model.specs.declared.fault.Fault.{Fault}
 use Rattle.term_model.specs.declared.fault.Fault.TheVariants as faults
 use Rattle.str_pipeline.specs.declared.status.Status.TheVariants.{Refused}
 use Rattle.str_pipeline.specs.Device.{Gains, GainsPrefix}
-use Rattle.str_pipeline.specs.Joined.{IsSplit}
 use Rattle.str_pipeline.specs.Limits.{max_definitions, max_term}
 use Rattle.str_pipeline.specs.Setting.{Setting}
 use Rattle.str_pipeline.specs.Judged.{AreAccepted, IsAccepted}
@@ -27,7 +26,6 @@ use Rattle.std.specs.Prelude.{true, false}
 use Rattle.str_pipeline.specs.Written.{IsWritten, refusal_line, IsFirstFault, HasWritten, HasBegun}
 use Rattle.str_pipeline.proofs.FaultLaws.{no_low_refusal}
 use Rattle.str_pipeline.proofs.CheckLaws.{no_check_fault}
-use Rattle.str_pipeline.proofs.CutLemmas.{one_split}
 
 -- the line and the status of a run
 pub run_written : (defs term : List ℕ) (S : Setting) (f : FileTree) (t : Tree) (outcome : Outcome Tree) (rules : ℕ)
@@ -136,15 +134,6 @@ pub of_told_long : (defs term : Option (List ℕ)) (d : List ℕ) (most : ℕ) (
 of_told_long None term d most X same_defs long known = tt
 of_told_long (Some told) None d most X same_defs long known = tt
 of_told_long (Some told) (Some text) d most X same_defs long known = rw (← same_defs) (known text long)
-
--- what is known at the split that was found holds at each split
-pub of_split : (old new : Option (List ℕ)) (defs : List ℕ) (rest : List ℕ → List ℕ) (X : List ℕ → List ℕ → Type 0)
-    → IfSome old (λ told. IsSomeAnd new (λ left. IsSplit told defs (rest left)))
-    → IfSome new (λ left. X defs (rest left)) → IfSome old (λ told. (d t : List ℕ) → IsSplit told d t → X d t)
-of_split None new defs rest X split known = tt
-of_split (Some told) None defs rest X split known = absurd split
-of_split (Some told) (Some left) defs rest X split known =
-    λ d t other. let same = one_split told defs (rest left) d t split other in rw (← same.0, ← same.1) known
 
 pub for_each_told : (told : Option (List ℕ)) (X : List ℕ → Type 0) → ((bytes : List ℕ) → X bytes) → IfSome told X
 for_each_told None X known = tt

@@ -2,6 +2,7 @@
 -- What a device of this crate was asked to do, and what it has done.
 use Rattle.std.specs.Prelude.{ℕ, Bool, false, nat_le, List, drop, Option, None, Some}
 use Rattle.str_pipeline.specs.declared.counted.Counted.{Counted}
+use Rattle.str_pipeline.specs.declared.empty_text.EmptyText.{EmptyText}
 use Rattle.str_pipeline.specs.declared.faulty.Faulty.{Faulty}
 
 -- the device of std whose calls are counted
@@ -19,6 +20,10 @@ failures_of c = c.failed.number
 -- whether the last of these was a write into a pipe that nobody reads any more
 abbrev pub is_broken : {D : Type 0} → Counted D → Bool
 is_broken c = c.is_broken_pipe
+
+-- how many reads a text without bytes has had
+abbrev pub reads_of : EmptyText → ℕ
+reads_of e = e.calls.number
 
 -- the most bytes in a call, the first bad call, whether bad calls take nothing in place of failing, and a writer's room
 pub record Orders : Type 0 where

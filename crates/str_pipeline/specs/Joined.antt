@@ -40,6 +40,14 @@ OfJoined input holds = IfSome input (λ told. (d t : List ℕ) → IsSplit told 
 abbrev pub OfJoinedDefinitions : Option (List ℕ) → (List ℕ → Type 0) → Type 0
 OfJoinedDefinitions input holds = OfJoined input (λ d t. holds d)
 
+-- this holds of the definitions and the term text of the joined form after the text of libraries, if both are shown
+abbrev pub OfJoinedAfter : Option (List ℕ) → Option (List ℕ) → (List ℕ → List ℕ → Type 0) → Type 0
+OfJoinedAfter libraries input holds = IfSome libraries (λ l. OfJoined input (λ d t. holds (l ++ d) t))
+
+-- this holds of the definitions among them
+abbrev pub OfJoinedDefinitionsAfter : Option (List ℕ) → Option (List ℕ) → (List ℕ → Type 0) → Type 0
+OfJoinedDefinitionsAfter libraries input holds = OfJoinedAfter libraries input (λ d t. holds d)
+
 -- what is read of one reader in the joined form: no more than the definitions and the line if they are refused
 pub record ReadsJoined {I : Type 0} (input : Reader I) (S : Setting) (old new : I) (result : Result Status Fault)
     : Type 0 where
@@ -52,3 +60,17 @@ pub record ReadsJoined {I : Type 0} (input : Reader I) (S : Setting) (old new : 
   -- whatever pieces the reader gives, the definitions are judged before the term is read
   pub judged_first : OfJoinedDefinitions (input.coming old) (λ d. (fault : Fault) → AreRefused S d fault →
       input.reads new ≤ input.reads old + length d + 8)
+
+-- the same of two readers, of the text of libraries and of the joined form after it
+pub record ReadsJoinedAfter {L I : Type 0} (libraries : Reader L) (input : Reader I) (S : Setting) (before after : L)
+    (old new : I) (result : Result Status Fault) : Type 0 where
+  pub read_failed : libraries.failed_reads after + input.failed_reads new ≡
+      libraries.failed_reads before + input.failed_reads old + (if is_read_fault result then 1 else 0)
+  pub libraries_bounded : libraries.reads after ≤ libraries.reads before + max_definitions + 1
+  pub bounded : input.reads new ≤ input.reads old + max_definitions + 7 + max_term + 1
+  pub defs_bounded : IfOk result (λ status. RefusesDefinitions status →
+      input.reads new ≤ input.reads old + max_definitions + 7)
+  pub unread_told : OfJoinedDefinitionsAfter (libraries.coming before) (input.coming old) (λ d. (fault : Fault) →
+      AreRefused S d fault → input.reads new ≤ input.reads old + max_definitions + 7)
+  pub judged_first : OfJoinedDefinitionsAfter (libraries.coming before) (input.coming old) (λ d. (fault : Fault) →
+      AreRefused S d fault → input.reads new ≤ input.reads old + length d + 8)

@@ -1,6 +1,6 @@
 -- The headline does not rest on this file.
 -- How far the search for the line `#term` has come in a text of which only the front is known.
-use Rattle.std.specs.Prelude.{◌≡◌, ℕ, ◌+◌, ◌<◌, ◌≤◌, Bool, true, false, List, [], ◌++◌, length, take, drop, Option}
+use Rattle.std.specs.Prelude.{◌≡◌, ℕ, ◌+◌, ◌<◌, ◌≤◌, Bool, true, false, List, [], ◌++◌, length, take, drop, Option, IfSome, IsSomeAnd}
 use Rattle.str_pipeline.specs.Joined.{IsBeforeLine, IsTermLine, HasTermLine, IsSplit, OfJoinedDefinitions}
 use Rattle.str_pipeline.specs.declared.joined.LineKind.{LineKind}
 use Rattle.str_pipeline.specs.declared.joined.LineKind.TheVariants.{Term, Other, Unknown}
@@ -60,6 +60,12 @@ term_of front left = drop front.term front.bytes.items ++ left
 -- at most so many reads were made as the definitions have bytes, and eight more, if the bytes were shown
 abbrev pub IsEarly : Option (List ℕ) → (before after : ℕ) → Type 0
 IsEarly told before after = OfJoinedDefinitions told (λ d. after ≤ before + length d + 8)
+
+-- these are the definitions of the joined form after the text of libraries, and the text of its term, by what is left
+-- of the input, if both are shown
+abbrev pub AreSplitAfter : (libraries input left : Option (List ℕ)) → List ℕ → (List ℕ → List ℕ) → Type 0
+AreSplitAfter libraries input left defs rest = IfSome libraries (λ l. IfSome input (λ told. IsSomeAnd left (λ more.
+    (d : List ℕ) × (defs ≡ l ++ d) × IsSplit told d (rest more))))
 
 -- each split of the text has more bytes of definitions
 abbrev pub HasLongDefinitions : ℕ → List ℕ → Type 0

@@ -1,5 +1,6 @@
 //! The check of definitions without a term.
 ghost use Rattle.std.specs.Prelude.{◌≡◌, ◌+◌, ◌≤◌, length, if◌then◌else◌, false, IfOk, IfErr, IfSome};
+ghost use Rattle.str_pipeline.specs.Joined.{OfJoinedDefinitionsAfter};
 ghost use Rattle.str_pipeline.specs.Limits.{max_definitions};
 ghost use Rattle.str_pipeline.specs.Setting.{setting_of};
 ghost use Rattle.str_pipeline.specs.Verdict.{IsVerdict};
@@ -7,6 +8,7 @@ ghost use Rattle.str_pipeline.specs.Faults.{IsReadingFault, is_read_fault};
 
 use crate::answer::MAX_DEFINITIONS;
 use crate::fault_remarks::add_faults;
+use crate::joined::read_definitions;
 use crate::pipeline::has_no_line;
 use crate::program::{Program, program_to_run};
 use crate::progress::library_bytes;
@@ -57,6 +59,41 @@ pub fn check_definitions<D: Source, M: PrimMeaning>(
     };
     notes.note_library(library_bytes(definitions.files()));
     verdict_on(alloc, keys, &text, options, registry, notes)
+}
+
+/// Does the same with the definitions of the joined form after the text of libraries: the bytes of the libraries and then those of the
+/// input before its first line that is `#term`, or all of them where no such line comes. What comes after that line is not judged. At
+/// most 1,048,577 reads of the libraries and 1,048,583 of the input are made.
+///
+/// # Errors
+/// As of `check_definitions`.
+pub fn check_joined<L: Source, S: Source, M: PrimMeaning>(
+    alloc: Global,
+    keys: HashKeys,
+    libraries: &mut L,
+    input: &mut S,
+    options: &Options,
+    registry: &Registry<M>,
+    notes: &mut RunNotes,
+) -> Result<Option<Fault>, Fault>
+    ensures judged { IfOk result (λ verdict. OfJoinedDefinitionsAfter
+        (L.reader.coming libraries.old) (S.reader.coming input.old)
+        (λ d. IsVerdict (setting_of M.answer registry.now options.now) d verdict)) }
+    ensures kinds { IfErr result IsReadingFault }
+    ensures failed { L.reader.failed_reads libraries.new + S.reader.failed_reads input.new
+        ≡ L.reader.failed_reads libraries.old + S.reader.failed_reads input.old +
+        (if is_read_fault result then 1 else 0) }
+    ensures libraries_bounded { L.reader.reads libraries.new ≤ L.reader.reads libraries.old +
+        max_definitions + 1 }
+    ensures bounded { S.reader.reads input.new ≤ S.reader.reads input.old + max_definitions + 7 }
+{
+    notes.begin();
+    let Some(found) = read_definitions(alloc, libraries, input)? else {
+        notes.note_long_definitions();
+        return Ok(Some(Fault::DefsTooLong));
+    };
+    notes.note_library(found.library);
+    verdict_on(alloc, keys, &found.text, options, registry, notes)
 }
 
 /// Judges these definitions. The fault is `Memory`.

@@ -5,9 +5,11 @@ ghost use Rattle.str_pipeline.specs.Search.{IsEarly, IsKind, IsClear, IsSearched
 ghost use Rattle.str_pipeline.specs.Faults.{IsReadingFault, is_read_fault};
 ghost use Rattle.str_pipeline.specs.Transfer.{IsDry};
 
+mod definitions;
 mod front;
 
 use crate::source::{PIECE, Source, read_onto};
+pub(crate) use definitions::{JoinedDefinitions, read_definitions};
 use diagnostics::RunNotes;
 pub(crate) use front::JoinedFront;
 use std::alloc::Global;
@@ -170,17 +172,6 @@ impl JoinedFront {
         ensures { result.now ≡ definitions_of self.now }
     {
         &self.bytes[..self.definitions]
-    }
-
-    /// The text of the definitions.
-    pub(crate) fn into_definitions(self) -> Vec<u8> {
-        let JoinedFront {
-            mut bytes,
-            definitions,
-            ..
-        } = self;
-        bytes.truncate(definitions);
-        bytes
     }
 
     /// Notes where the term text begins.

@@ -11,6 +11,7 @@ mod checking;
 mod counted;
 mod counters;
 mod definition_counts;
+mod empty_text;
 mod explainer;
 mod explaining;
 mod failures;
@@ -35,13 +36,14 @@ mod usage;
 mod waiting_calls;
 
 pub use answer::{DEFAULT_BUDGET, MAX_BUDGET, MAX_DEFINITIONS, MAX_TERM};
-pub use checking::check_definitions;
+pub use checking::{check_definitions, check_joined};
 pub use counted::Counted;
 pub use diagnostics::{
     Advice, Context, Coverage, Excerpt, Explanation, Hint, HintOnLine, Inquiry, NameHint,
     NamedLine, Operation, OtherPlace, OversizeTerm, Position, Reason, Remark, Role, Row, RunNotes,
     Shown, Subject, TermExpected, Used, Wanted,
 };
+pub use empty_text::EmptyText;
 pub use faulty::Faulty;
 pub use laws::{joined_form_law, one_line_law};
 pub use pipeline::{

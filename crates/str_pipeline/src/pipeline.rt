@@ -1,9 +1,11 @@
 //! From the bytes of definitions and of a term to the bytes of the answer.
-ghost use Rattle.std.specs.Prelude.{◌≡◌, ◌↔◌, ◌+◌, ◌≤◌, ℕ, List, length, Result, Err, IsTrue, if◌then◌else◌, IfOk, IfErr, IfSome, IsErrOf, IsErrAnd};
+ghost use Rattle.std.specs.Prelude.{◌≡◌, ◌↔◌, ◌+◌, ◌≤◌, ℕ, List, length, vec_len, Result, Err, IsTrue, if◌then◌else◌, IfOk, IfErr, IfSome, IsErrOf, IsErrAnd};
 ghost use Rattle.term_model.specs.declared.fault.Fault.{Fault};
 ghost use Rattle.term_model.specs.Fault.{number_of};
 ghost use Rattle.prim_registry.specs.Entries.{IsHonest};
-ghost use Rattle.str_pipeline.specs.Joined.{IsSplit, OfJoined, OfJoinedDefinitions, ReadsJoined};
+ghost use Rattle.str_pipeline.specs.Joined.{OfJoined, OfJoinedAfter, OfJoinedDefinitions, OfJoinedDefinitionsAfter, ReadsJoined, ReadsJoinedAfter};
+ghost use Rattle.str_pipeline.specs.Search.{term_of};
+ghost use Rattle.str_pipeline.specs.Transfer.{IsDry};
 ghost use Rattle.str_pipeline.specs.Limits.{max_definitions, max_term};
 ghost use Rattle.term_model.specs.Limits.{max_budget};
 ghost use Rattle.str_pipeline.specs.Setting.{Setting, setting_of};
@@ -14,8 +16,9 @@ ghost use Rattle.str_pipeline.specs.Transformation.{Ends, OfTwo, ReadsTwo, Trans
 ghost use Rattle.str_pipeline.specs.Faults.{HoldsRefusal, IsRefusal, IsTransferFault, IsOfDefinitions, RefusesDefinitions, is_read, is_read_fault, is_write_fault};
 
 use crate::answer::{MAX_DEFINITIONS, MAX_TERM, outcome_of, write_outcome, write_refusal};
+use crate::empty_text::EmptyText;
 use crate::explaining::explain_run;
-use crate::joined::read_front;
+use crate::joined::{JoinedDefinitions, read_definitions};
 use crate::program::program_to_run;
 use crate::progress::library_bytes;
 use crate::sink::Sink;
@@ -78,11 +81,12 @@ fn outcome_apart<D: Source, T: Source, M: PrimMeaning>(
     )
 }
 
-/// Does the same over one reader of the joined form.
-#[tactic(auto, using(crate::proofs::FaultLaws::reading_stops, crate::proofs::FaultLaws::reading_apart, crate::proofs::FaultLaws::program_stops, crate::proofs::FaultLaws::program_no_read, crate::proofs::FaultLaws::long_definitions_stop, crate::proofs::FaultLaws::long_term_stops, crate::proofs::FaultLaws::long_term_apart, crate::proofs::OneLine::within_told))]
-fn outcome_joined<S: Source, M: PrimMeaning>(
+/// Does the same over one reader of the joined form, after the text of libraries from another one.
+#[tactic(auto, using(crate::proofs::FaultLaws::reading_stops, crate::proofs::FaultLaws::reading_apart, crate::proofs::FaultLaws::long_definitions_stop))]
+fn outcome_joined<L: Source, S: Source, M: PrimMeaning>(
     alloc: Global,
     keys: HashKeys,
+    libraries: &mut L,
     input: &mut S,
     options: &Options,
     registry: &Registry<M>,
@@ -90,38 +94,77 @@ fn outcome_joined<S: Source, M: PrimMeaning>(
 ) -> Result<Outcome<Vec<u8>>, Fault>
     requires budget { options.now.budget ≤ max_budget }
     requires honest { IsHonest M.answer registry.now }
-    ensures result { IfSome (S.reader.coming input.old)
-        (λ told. (d t : List ℕ) → IsSplit told d t →
-        IsTextResult d t (setting_of M.answer registry.now options.now) result) }
+    ensures result { OfJoinedAfter (L.reader.coming libraries.old) (S.reader.coming input.old)
+        (λ d t. IsTextResult d t (setting_of M.answer registry.now options.now) result) }
     ensures kinds { IfErr result IsStop }
-    ensures failed { S.reader.failed_reads input.new ≡ S.reader.failed_reads input.old +
+    ensures failed { L.reader.failed_reads libraries.new + S.reader.failed_reads input.new
+        ≡ L.reader.failed_reads libraries.old + S.reader.failed_reads input.old +
         (if is_read_fault result then 1 else 0) }
+    ensures libraries_bounded { L.reader.reads libraries.new ≤ L.reader.reads libraries.old +
+        max_definitions + 1 }
     ensures bounded { S.reader.reads input.new ≤ S.reader.reads input.old + max_definitions + 7 +
         max_term + 1 }
     ensures defs_bounded { IfErr result (λ fault. IsOfDefinitions fault →
         S.reader.reads input.new ≤ S.reader.reads input.old + max_definitions + 7) }
-    ensures unread_told { IfSome (S.reader.coming input.old) (λ told. (d t : List ℕ) →
-        IsSplit told d t →
-        (fault : Fault) → AreRefused (setting_of M.answer registry.now options.now) d fault →
+    ensures unread_told { OfJoinedDefinitionsAfter (L.reader.coming libraries.old)
+        (S.reader.coming input.old) (λ d. (fault : Fault) →
+        AreRefused (setting_of M.answer registry.now options.now) d fault →
         S.reader.reads input.new ≤ S.reader.reads input.old + max_definitions + 7) }
-    ensures judged_first { OfJoinedDefinitions (S.reader.coming input.old) (λ d. (fault : Fault) →
+    ensures judged_first { OfJoinedDefinitionsAfter (L.reader.coming libraries.old)
+        (S.reader.coming input.old) (λ d. (fault : Fault) →
         AreRefused (setting_of M.answer registry.now options.now) d fault →
         S.reader.reads input.new ≤ S.reader.reads input.old + length d + 8) }
 {
-    let Some(front) = read_front(alloc, input, MAX_DEFINITIONS)? else {
+    let Some(found) = read_definitions(alloc, libraries, input)? else {
         return Err(Fault::DefsTooLong);
     };
-    let program = program_to_run(alloc, keys, front.definitions(), options, registry, notes)?;
+    outcome_after(alloc, keys, found, input, options, registry, notes)
+}
+
+/// Returns what the definitions that were found do with the term after them.
+#[tactic(auto, using(crate::proofs::FaultLaws::reading_stops, crate::proofs::FaultLaws::reading_apart, crate::proofs::FaultLaws::program_stops, crate::proofs::FaultLaws::program_no_read, crate::proofs::FaultLaws::long_term_stops, crate::proofs::FaultLaws::long_term_apart))]
+fn outcome_after<S: Source, M: PrimMeaning>(
+    alloc: Global,
+    keys: HashKeys,
+    found: JoinedDefinitions,
+    input: &mut S,
+    options: &Options,
+    registry: &Registry<M>,
+    notes: &mut RunNotes,
+) -> Result<Outcome<Vec<u8>>, Fault>
+    requires budget { options.now.budget ≤ max_budget }
+    requires honest { IsHonest M.answer registry.now }
+    requires fits { vec_len found.text ≤ max_definitions }
+    requires ended { IsTrue found.front.is_ended → IsDry (S.reader.coming input.old) }
+    ensures result { IfSome (S.reader.coming input.old)
+        (λ left. IsTextResult found.text.items (term_of found.front left)
+        (setting_of M.answer registry.now options.now) result) }
+    ensures kinds { IfErr result IsStop }
+    ensures failed { S.reader.failed_reads input.new ≡ S.reader.failed_reads input.old +
+        (if is_read_fault result then 1 else 0) }
+    ensures unread { IfErr result (λ fault. IsOfDefinitions fault → input.new ≡ input.old) }
+    ensures unread_told { (fault : Fault) →
+        AreRefused (setting_of M.answer registry.now options.now) found.text.items fault →
+        input.new ≡ input.old }
+    ensures bounded { S.reader.reads input.new ≤ S.reader.reads input.old + max_term + 1 }
+{
+    let JoinedDefinitions {
+        text,
+        library,
+        front,
+    } = found;
+    notes.note_library(library);
+    let program = program_to_run(alloc, keys, &text, options, registry, notes)?;
     front.note_end(notes);
-    let Some(text) = front.read_term(alloc, input, MAX_TERM)? else {
+    let Some(term) = front.read_term(alloc, input, MAX_TERM)? else {
         return Err(Fault::TermTooLong);
     };
-    notes.keep_definitions(front.into_definitions());
+    notes.keep_definitions(text);
     outcome_of(
         alloc,
         StoreSpace::new(alloc, keys),
         program,
-        text,
+        term,
         options,
         registry,
         notes,
@@ -286,20 +329,33 @@ pub fn transform_joined<S: Source, M: PrimMeaning, W: Sink>(
     ensures reads { ReadsJoined S.reader (setting_of M.answer registry.now options.now)
         input.old input.new result }
 {
+    let mut libraries = EmptyText::new();
     let mut notes = RunNotes::none();
-    transform_joined_with_notes(alloc, keys, input, options, registry, &mut notes, out)
+    transform_joined_with_notes(
+        alloc,
+        keys,
+        &mut libraries,
+        input,
+        options,
+        registry,
+        &mut notes,
+        out,
+    )
 }
 
-/// Does as `transform_joined` does, and notes what a person wants to know where the definitions or the term are refused, and else what
-/// the run used. What was noted before is dropped. If the notes ask for an explanation and neither text is refused, it is noted, with
-/// warnings, after the line is written; for it the program may run a few times more. The clauses are those of
+/// Does as `transform_joined` does, after the text of libraries: the definitions are the bytes of the libraries and then those of the input
+/// before the line, which is looked for in the input alone. At most 1,048,577 reads of the libraries are made; if they have too many bytes
+/// the input is not read. Notes what a person wants to know where the definitions or the term are refused, and else what the run used. What
+/// was noted before is dropped. If the notes ask for an explanation and neither text is refused, it is noted, with warnings, after the line
+/// is written; for it the program may run a few times more. With a text of libraries that has no bytes the clauses are those of
 /// `transform_joined`, whatever is noted.
 ///
 /// # Errors
 /// As of `transform`.
-pub fn transform_joined_with_notes<S: Source, M: PrimMeaning, W: Sink>(
+pub fn transform_joined_with_notes<L: Source, S: Source, M: PrimMeaning, W: Sink>(
     alloc: Global,
     keys: HashKeys,
+    libraries: &mut L,
     input: &mut S,
     options: &Options,
     registry: &Registry<M>,
@@ -309,14 +365,16 @@ pub fn transform_joined_with_notes<S: Source, M: PrimMeaning, W: Sink>(
     requires budget { options.now.budget ≤ max_budget }
     requires honest { IsHonest M.answer registry.now }
     ensures transforms { Transforms W.writer (setting_of M.answer registry.now options.now)
-        (OfJoined (S.reader.coming input.old)) (OfJoinedDefinitions (S.reader.coming input.old))
+        (OfJoinedAfter (L.reader.coming libraries.old) (S.reader.coming input.old))
+        (OfJoinedDefinitionsAfter (L.reader.coming libraries.old) (S.reader.coming input.old))
         out.old out.new result }
     ensures ends { Ends W.writer out.old out.new result }
-    ensures reads { ReadsJoined S.reader (setting_of M.answer registry.now options.now)
-        input.old input.new result }
+    ensures reads { ReadsJoinedAfter L.reader S.reader
+        (setting_of M.answer registry.now options.now)
+        libraries.old libraries.new input.old input.new result }
 {
     notes.begin();
-    let outcome = outcome_joined(alloc, keys, input, options, registry, notes);
+    let outcome = outcome_joined(alloc, keys, libraries, input, options, registry, notes);
     notes.note_outcome(&outcome);
     let status = finish(alloc, outcome, out);
     explain_run(alloc, keys, &status, options, registry, notes);
