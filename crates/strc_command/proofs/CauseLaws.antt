@@ -1,4 +1,4 @@
--- Why a run stopped, by the devices' failed calls, and what is told of it.
+-- Why a run stopped, by the devices' failed calls, and what is reported of it.
 use Rattle.std.proofs.Common.{◌≡◌, ◌+◌, ℕ, Bool, List, [], Option, Result, true, is_err, arith, inl, refl, subst, sym}
 use Rattle.std.proofs.lemmas.List.{append-nil}
 use Rattle.std.specs.Prelude.{Err, if◌then◌else◌}
@@ -58,7 +58,7 @@ write_counts fault v w wrote is =
     let one : w ≡ v + 1 = subst (λ f. w ≡ v + (if is_write_fault {A = Status} (Err f) then 1 else 0)) is wrote in
     omega arith
 
--- what is told of the fault that ends a transformation
+-- what is reported of the fault that ends a transformation
 pub stopped : {closed : Bool} (fault : Fault) (v w before after : ℕ) (old new : Option (List ℕ))
     → w ≡ v + (if is_write_fault {A = Status} (Err fault) then 1 else 0)
     → ((writes : Failures) → (fault ≡ Write → AreSome writes) →
@@ -67,7 +67,7 @@ pub stopped : {closed : Bool} (fault : Fault) (v w before after : ℕ) (old new 
 stopped fault v w before after old new wrote told =
     told (record { before = v; after = w }) (write_counts fault v w wrote)
 
--- what is told of a whole text that could not be written
+-- what is reported of a whole text that could not be written
 pub writing_stopped : {A : Type 0} {closed : Bool} (r : Result A Fault) (v w before after : ℕ)
     (old new : Option (List ℕ)) →
     is_err r ≡ true
@@ -78,7 +78,7 @@ writing_stopped r v w before after old new bad wrote told =
     let one : w ≡ v + 1 = subst (λ b. w ≡ v + (if b then 1 else 0)) bad wrote in
     told (record { before = v; after = w }) (omega arith)
 
--- a line alone is one after which nothing more is told
+-- a line alone is one after which nothing more is reported
 pub alone : (fault : Fault) (before after : ℕ) (old new : Option (List ℕ)) → Tells fault before after old new →
     TellsMore fault before after old new
 alone fault before after old new told = record {
@@ -95,7 +95,7 @@ pub alone_told : (fault : Fault) (before after : ℕ) (old new : Option (List �
 alone_told Memory before after old new told = told
 alone_told fault before after old new told = alone fault before after old new told
 
--- what is told of a fault in whose run no write to the output failed
+-- what is reported of a fault in whose run no write to the output failed
 pub fault_told : {closed : Bool} (writes : Failures) (fault : Fault) (before after : ℕ) (old new : Option (List ℕ)) →
     TellsFault fault before after old new
     → TellsStop closed writes fault before after old new

@@ -1,9 +1,9 @@
 -- Lines in the forms in which they are written.
-use Rattle.std.proofs.Common.{◌≡◌, ℕ, List, [], Option, None, Some, Result, Ok, Err, refl, sym, subst, IfOk}
+use Rattle.std.proofs.Common.{◌≡◌, ◌++◌, ℕ, List, [], Option, None, Some, Result, Ok, Err, refl, sym, subst, IfOk}
 use Rattle.term_model.specs.declared.fault.Fault.{Fault}
 use Rattle.str_pipeline.specs.Device.{Gains, GainsPrefix}
 use Rattle.str_pipeline.specs.Setting.{Setting}
-use Rattle.str_pipeline.specs.Joined.{OfJoined}
+use Rattle.str_pipeline.specs.Joined.{OfJoined, OfJoinedAfter}
 use Rattle.str_pipeline.specs.Transformation.{OfTwo}
 use Rattle.str_pipeline.specs.Written.{HasWritten, HasBegun}
 use Rattle.str_pipeline.specs.declared.status.Status.{Status}
@@ -100,6 +100,12 @@ over_splits : (coming : Option (List ℕ)) (P Q : List ℕ → List ℕ → Type
 over_splits None P Q f given = tt
 over_splits (Some told) P Q f given = λ d t split. f d t (given d t split)
 
+over_splits_after : (libraries coming : Option (List ℕ)) (P Q : List ℕ → List ℕ → Type 0) →
+    ((d t : List ℕ) → P d t → Q d t) → OfJoinedAfter libraries coming P → OfJoinedAfter libraries coming Q
+over_splits_after None coming P Q f given = tt
+over_splits_after (Some l) coming P Q f given =
+    over_splits coming (λ d t. P (l ++ d) t) (λ d t. Q (l ++ d) t) (λ d t. f (l ++ d) t) given
+
 over_pairs : (defs term : Option (List ℕ)) (P Q : List ℕ → List ℕ → Type 0) → ((d t : List ℕ) → P d t → Q d t) →
     OfTwo defs term P → OfTwo defs term Q
 over_pairs None term P Q f given = tt
@@ -123,25 +129,27 @@ joined_beginning coming form S old new is given =
 
 -- ---- what writing the form of a collected line leaves
 
-pub joined_written : (r : Result Status Fault) (coming : Option (List ℕ)) (form : Form) (S : Setting) (status : Status)
-    (held : List ℕ)
+pub joined_written : (r : Result Status Fault) (libraries coming : Option (List ℕ)) (form : Form) (S : Setting)
+    (status : Status) (held : List ℕ)
     (before after old new : Option (List ℕ)) → before ≡ Some [] → after ≡ Some held →
     IfOk r (λ ended. (ended ≡ status) × GainsForm form status held old new) →
-    OfJoined coming (λ d t. HasWritten d t S status before after) →
-    IfOk r (λ ended. OfJoined coming (λ d t. HasWrittenIn form d t S ended old new))
-joined_written (Ok ended) coming form S status held before after old new empty whole (same, g) given =
-    over_splits coming (λ d t. HasWritten d t S status before after) (λ d t. HasWrittenIn form d t S ended old new)
+    OfJoinedAfter libraries coming (λ d t. HasWritten d t S status before after) →
+    IfOk r (λ ended. OfJoinedAfter libraries coming (λ d t. HasWrittenIn form d t S ended old new))
+joined_written (Ok ended) libraries coming form S status held before after old new empty whole (same, g) given =
+    over_splits_after libraries coming (λ d t. HasWritten d t S status before after)
+    (λ d t. HasWrittenIn form d t S ended old new)
     (λ d t w. subst (λ s. HasWrittenIn form d t S s old new) (sym same)
     (form_written form d t S status held old new g (held_line d t S status held before after empty whole w))) given
-joined_written (Err fault) coming form S status held before after old new empty whole gained given = tt
+joined_written (Err fault) libraries coming form S status held before after old new empty whole gained given = tt
 
-pub joined_begun : (coming : Option (List ℕ)) (form : Form) (S : Setting) (status : Status) (held : List ℕ)
+pub joined_begun : (libraries coming : Option (List ℕ)) (form : Form) (S : Setting) (status : Status) (held : List ℕ)
     (before after old new : Option (List ℕ)) → before ≡ Some [] → after ≡ Some held →
     BeginsForm form status held old new →
-    OfJoined coming (λ d t. HasWritten d t S status before after) → OfJoined coming (λ d t.
-    HasBegunIn form d t S old new)
-joined_begun coming form S status held before after old new empty whole g given =
-    over_splits coming (λ d t. HasWritten d t S status before after) (λ d t. HasBegunIn form d t S old new)
+    OfJoinedAfter libraries coming (λ d t. HasWritten d t S status before after) →
+    OfJoinedAfter libraries coming (λ d t. HasBegunIn form d t S old new)
+joined_begun libraries coming form S status held before after old new empty whole g given =
+    over_splits_after libraries coming (λ d t. HasWritten d t S status before after)
+    (λ d t. HasBegunIn form d t S old new)
     (λ d t w. form_begun form d t S status held old new g (held_line d t S status held before after empty whole w))
     given
 
@@ -183,4 +191,21 @@ pub apart_as_beginning : (defs term : Option (List ℕ)) (form : Form) (S : Sett
     OfTwo defs term (λ d t. HasBegun d t S old new) → OfTwo defs term (λ d t. HasBegunIn form d t S old new)
 apart_as_beginning defs term form S old new is given =
     over_pairs defs term (λ d t. HasBegun d t S old new) (λ d t. HasBegunIn form d t S old new)
+    (λ d t w. beginning_in_form form d t S old new is w) given
+
+pub joined_as_line : (r : Result Status Fault) (libraries coming : Option (List ℕ)) (form : Form) (S : Setting)
+    (old new : Option (List ℕ)) → form ≡ Line →
+    IfOk r (λ status. OfJoinedAfter libraries coming (λ d t. HasWritten d t S status old new)) →
+    IfOk r (λ status. OfJoinedAfter libraries coming (λ d t. HasWrittenIn form d t S status old new))
+joined_as_line (Ok status) libraries coming form S old new is given =
+    over_splits_after libraries coming (λ d t. HasWritten d t S status old new)
+    (λ d t. HasWrittenIn form d t S status old new) (λ d t w. line_in_form form d t S status old new is w) given
+joined_as_line (Err fault) libraries coming form S old new is given = tt
+
+pub joined_as_beginning : (libraries coming : Option (List ℕ)) (form : Form) (S : Setting)
+    (old new : Option (List ℕ)) → form ≡ Line →
+    OfJoinedAfter libraries coming (λ d t. HasBegun d t S old new) →
+    OfJoinedAfter libraries coming (λ d t. HasBegunIn form d t S old new)
+joined_as_beginning libraries coming form S old new is given =
+    over_splits_after libraries coming (λ d t. HasBegun d t S old new) (λ d t. HasBegunIn form d t S old new)
     (λ d t w. beginning_in_form form d t S old new is w) given

@@ -51,7 +51,7 @@ pub at_paths : (text_at : List ℕ → Option (List ℕ)) (files : List Library)
 at_paths text_at [] = refl
 at_paths text_at (file ∷ files) = ap (λ texts. text_at (path_of file) ∷ texts) (at_paths text_at files)
 
-same_texts : (f g : List ℕ → Option (List ℕ)) → ((path : List ℕ) → f path ≡ g path) → (files : List (List ℕ)) →
+pub same_texts : (f g : List ℕ → Option (List ℕ)) → ((path : List ℕ) → f path ≡ g path) → (files : List (List ℕ)) →
     map f files ≡ map g files
 same_texts f g same [] = refl
 same_texts f g same (file ∷ files) = rw (same file, same_texts f g same files) refl

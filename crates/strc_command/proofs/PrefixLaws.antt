@@ -114,7 +114,7 @@ pub text_as_asked : (asked : Bool) (a b : Option (List ℕ)) → asked ≡ true 
 text_as_asked true a b is text = text
 text_as_asked false a b is text = absurd (true≢false (sym is))
 
--- a text that was written, as one that is told
+-- a text that was written, as one that is reported
 pub writes_text : {text : List ℕ} {is_failed : Bool} (before after : ℕ) (old new : Option (List ℕ)) →
     Writes text is_failed before after old new → TellsText old new
 writes_text {text} before after old new writes = (text, writes.beginning)

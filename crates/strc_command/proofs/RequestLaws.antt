@@ -1,22 +1,24 @@
 -- What few words ask for, and how a run over several texts follows from its parts.
 use Rattle.std.proofs.Common.{◌≡◌, ◌∙◌, ◌≤◌, ◌∷◌, [], arith, refl, subst, sym, ℕ, List, Option, None, Some, length, map, drop}
-use Rattle.std.specs.Prelude.{Err, IfOk, IfSome, Ok, Result, false}
+use Rattle.std.specs.Prelude.{◌+◌, Err, IfOk, IfSome, Ok, Result, false}
 use Rattle.term_model.specs.declared.fault.Fault.TheVariants.{Memory}
 use Rattle.str_pipeline.specs.Device.{Reader, Writer}
+use Rattle.str_pipeline.specs.Joined.{OfJoined, OfJoinedAfter, OfJoinedDefinitionsAfter}
 use Rattle.str_pipeline.specs.Setting.{Setting}
 use Rattle.str_pipeline.specs.Transformation.{OfTwo}
 use Rattle.str_pipeline.specs.Verdict.{IsVerdict}
 use Rattle.str_pipeline.specs.declared.status.Options.{Options}
 use Rattle.strc_command.specs.Asked.{Asked, asked_of, paths_in, plain_asked}
-use Rattle.strc_command.specs.Files.{AreNamed, OfFiles, texts_at, whole_text}
+use Rattle.strc_command.specs.Files.{AreNamed, OfFiles, OfJoinedFiles, none_named, text_in_front, texts_at, whole_text}
 use Rattle.strc_command.specs.Forms.{HasWrittenIn}
 use Rattle.strc_command.specs.Report.{Failures, Tells}
-use Rattle.strc_command.specs.Runs.{Change, Gained, IsAnswered, IsJudged, RunsJoined, RunsPlain, Told, change, reads_of}
+use Rattle.strc_command.specs.Runs.{Change, Gained, IsAnswered, IsJudged, Runs, RunsJoined, RunsPlain, Told, change, reads_of}
 use Rattle.strc_command.specs.declared.request.Form.TheVariants.{Line}
 use Rattle.strc_command.specs.declared.request.OutputOptions.{OutputOptions}
 use Rattle.strc_command.specs.declared.request.Texts.{Texts}
 use Rattle.strc_command.specs.declared.request.Texts.TheVariants.{Joined, Definitions, Both}
 use Rattle.strc_command.proofs.CauseLaws.{memory_joined}
+use Rattle.strc_command.proofs.FilesLaws.{after_files}
 use Rattle.strc_command.proofs.FormLaws.{joined_beginning, joined_line}
 use Rattle.strc_command.proofs.OpeningLaws.{same_whole}
 
@@ -100,6 +102,75 @@ judged_over f g same words files definitions S diagnostics exit named given = (
   given.3,
 )
 
+-- no words are none of any form
+pub no_texts : {A : Type 0} (f : A → List ℕ) (words : List A) → length words ≡ 0 → map f words ≡ []
+no_texts f [] none = refl
+no_texts f (word ∷ words) none = absurd (omega (arith, none))
+
+-- a run over an input in front of which no read fails
+pub runs_alone : {W E : Type 0} (of_texts : (List ℕ → List ℕ → Type 0) → Type 0) (before after : ℕ)
+    (output : OutputOptions) (S : Setting) (out : Change W) (diagnostics : Change E) (exit : ℕ) →
+    Runs of_texts (record { before = 0 + before; after = 0 + after }) output S out diagnostics exit →
+    Runs of_texts (record { before = before; after = after }) output S out diagnostics exit
+runs_alone of_texts before after output S out diagnostics exit given =
+    let first : 0 + before ≡ before = omega arith in
+    let last : 0 + after ≡ after = omega arith in
+    subst (λ (x : ℕ). Runs of_texts (record { before = x; after = after }) output S out diagnostics exit) first
+    (subst (λ (x : ℕ). Runs of_texts (record { before = 0 + before; after = x }) output S out diagnostics exit) last
+    given)
+
+-- an answer to the joined form after the text of files is one to it and the files that words name
+pub answered_after : {W E : Type 0} (g : List ℕ → Option (List ℕ)) (texts : List (Option (List ℕ)))
+    (coming : Option (List ℕ)) (words files : List (List ℕ)) (output : OutputOptions) (S : Setting) (out : Change W)
+    (diagnostics : Change E) (exit : ℕ) → AreNamed words files → texts ≡ map g files →
+    IsAnswered (OfJoinedAfter (text_in_front texts) coming) output S out diagnostics exit →
+    IsAnswered (OfJoinedFiles g coming words) output S out diagnostics exit
+answered_after g texts coming words files output S out diagnostics exit named is given = (
+  given.0,
+  given.1,
+  given.2,
+  (
+    files,
+    named,
+    after_files (map g files) coming (λ d t. Gained out (HasWrittenIn output.form d t S given.0))
+        (subst (λ (all : List (Option (List ℕ))). OfJoinedAfter (text_in_front all) coming
+        (λ d t. Gained out (HasWrittenIn output.form d t S given.0))) is given.3),
+  ),
+  given.4,
+)
+
+-- and so is one to the joined form alone where they name no file
+pub answered_alone : {W E : Type 0} (g : List ℕ → Option (List ℕ)) (coming : Option (List ℕ))
+    (words : List (List ℕ)) (output : OutputOptions) (S : Setting) (out : Change W) (diagnostics : Change E)
+    (exit : ℕ) → words ≡ [] → IsAnswered (OfJoined coming) output S out diagnostics exit →
+    IsAnswered (OfJoinedFiles g coming words) output S out diagnostics exit
+answered_alone g coming words output S out diagnostics exit none given = (
+  given.0,
+  given.1,
+  given.2,
+  ([], subst (λ (said : List (List ℕ)). AreNamed said []) (sym none) none_named, given.3),
+  given.4,
+)
+
+-- what is judged of the joined form after the text of files is judged of it and the files that words name
+pub judged_after : {E : Type 0} (g : List ℕ → Option (List ℕ)) (texts : List (Option (List ℕ)))
+    (coming : Option (List ℕ)) (words files : List (List ℕ)) (S : Setting) (diagnostics : Change E) (exit : ℕ) →
+    AreNamed words files → texts ≡ map g files →
+    IsJudged (OfJoinedDefinitionsAfter (text_in_front texts) coming) S diagnostics exit →
+    IsJudged (λ relates. OfJoinedFiles g coming words (λ d t. relates d)) S diagnostics exit
+judged_after g texts coming words files S diagnostics exit named is given = (
+  given.0,
+  given.1,
+  (
+    files,
+    named,
+    after_files (map g files) coming (λ d t. IsVerdict S d given.0)
+        (subst (λ (all : List (Option (List ℕ))). OfJoinedAfter (text_in_front all) coming
+        (λ d t. IsVerdict S d given.0)) is given.2),
+  ),
+  given.3,
+)
+
 -- no words ask for what is plain
 pub is_plain : (words : List (List ℕ)) (asked : Asked) → asked_of words ≡ Some asked → words ≡ [] → asked ≡ plain_asked
 is_plain words asked is none =
@@ -120,11 +191,13 @@ pub memory_joined_words : {I W E V F : Type 0} (words : Result V F) (asked_by : 
     (coming : Option (List ℕ)) (reader : Reader I) (setting : Options → Setting) (writer : Writer W)
     (stream : Writer E) (input : I) (out : W) (before after : E) (exit : ℕ) → exit ≡ 4 →
     Told (change stream before after) (Tells Memory) → IfOk words (λ said. IfSome (asked_by said) (λ asked.
-    asked.checks ≡ false → asked.paths ≡ [] → RunsJoined asked coming (reads_of reader input input) setting
-    (change writer out out) (change stream before after) exit))
+    asked.checks ≡ false → asked.paths ≡ [] → asked.libraries ≡ [] →
+    RunsJoined asked coming (reads_of reader input input) setting (change writer out out) (change stream before after)
+    exit))
 memory_joined_words {V} (Ok said) asked_by coming reader setting writer stream input out before after exit four told =
-    whatever (asked_by said) (λ asked. asked.checks ≡ false → asked.paths ≡ [] → RunsJoined asked coming
-    (reads_of reader input input) setting (change writer out out) (change stream before after) exit)
-    (λ asked rewrites none. memory_joined asked coming reader setting writer stream input out before after exit four
-    told)
+    whatever (asked_by said) (λ asked. asked.checks ≡ false → asked.paths ≡ [] → asked.libraries ≡ [] →
+    RunsJoined asked coming (reads_of reader input input) setting (change writer out out) (change stream before after)
+    exit)
+    (λ asked rewrites none alone. memory_joined asked coming reader setting writer stream input out before after exit
+    four told)
 memory_joined_words (Err e) asked_by coming reader setting writer stream input out before after exit four told = tt

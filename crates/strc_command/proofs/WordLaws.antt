@@ -63,7 +63,7 @@ pub next_word : {A : Type 0} (f : A → List ℕ) (words : List A) (i : ℕ) (wo
     map f (drop i words) ≡ f (slice_index_or words i word) ∷ map f (drop (i + 1) words)
 next_word f words i word below = rw (add-one, drop-cons words i word) refl
 
--- whether a word is one of these, behind references
+-- whether a word is one of these, through references
 pub any_text : (words : List (Bor (List ℕ))) (word : List ℕ) →
     list_any (λ (other : Bor (List ℕ)). bytes_eq other.now word) words ≡ is_among (texts_in words) word
 any_text [] word = refl

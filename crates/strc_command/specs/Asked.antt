@@ -113,7 +113,7 @@ is_none_of texts = length texts == 0
 
 -- a file of definitions is named twice; `prelude` names none where DEFS stands
 abbrev pub is_repeated : List (List ℕ) → List (List ℕ) → Bool
-is_repeated libraries [] = false
+is_repeated libraries [] = has_repeats libraries
 is_repeated libraries (definitions ∷ term) =
     has_repeats libraries || (is_among libraries definitions && not (bytes_eq definitions (codes "prelude")))
 
@@ -122,7 +122,7 @@ abbrev pub has_two_limits : Elements → Bool
 has_two_limits elements =
     is_given (codes "--no-limit") elements && not (is_none_of (texts_given (codes "--rules") elements))
 
--- calls are told
+-- calls are reported
 abbrev pub has_traces : Elements → Bool
 has_traces elements = not (is_none_of (texts_given (codes "--trace") elements))
 
@@ -131,7 +131,7 @@ abbrev pub has_tables : Elements → Bool
 has_tables elements = is_given (codes "--counts") elements
     || (is_given (codes "--counts-all") elements || (is_given (codes "--profile") elements || has_traces elements))
 
--- failures are asked for of calls that are told alone
+-- failures are asked for of calls that are reported alone
 abbrev pub is_failures_alone : Elements → Bool
 is_failures_alone elements = is_given (codes "--failures") elements && not (has_traces elements)
 
@@ -141,7 +141,7 @@ is_check_misused elements = is_given (codes "--check") elements
     && (has_tables elements || is_given (codes "--raw") elements || is_given (codes "--pretty") elements
     || nat_lt 1 (length elements.paths))
 
--- options exclude each other or the paths, or `--with` lacks them
+-- options exclude each other or the paths, or a file is named twice
 abbrev pub is_misused : Elements → Bool
 is_misused elements =
     let libraries = texts_given (codes "--with") elements in
@@ -149,7 +149,6 @@ is_misused elements =
     || is_failures_alone elements
     || (is_given (codes "--raw") elements && is_given (codes "--pretty") elements)
     || is_check_misused elements
-    || (not (is_none_of libraries) && is_none_of elements.paths)
     || is_repeated libraries elements.paths
 
 abbrev pub form_of : Bool → Bool → Form

@@ -3,6 +3,7 @@
 use Rattle.std.specs.Prelude.{◌≡◌, ◌≢◌, ℕ, List, [], ◌∷◌, ◌++◌, map, codes, Option, None, Some, IfSome}
 use Rattle.str_pipeline.specs.Joined.{OfJoined}
 use Rattle.strc_command.specs.declared.definition_files.DefinitionFiles.{DefinitionFiles}
+use Rattle.strc_command.specs.declared.library_files.LibraryFiles.{LibraryFiles}
 use Rattle.strc_command.specs.declared.opening.Library.{Library}
 
 -- a text, a line feed, and what comes next; nothing where one of the two is not known
@@ -17,6 +18,11 @@ whole_text [] = Some []
 whole_text (text ∷ []) = text
 whole_text (text ∷ next ∷ rest) = with_next text (whole_text (next ∷ rest))
 
+-- the texts of files one after another, each followed by a line feed; nothing where one of them is not known
+abbrev pub text_in_front : List (Option (List ℕ)) → Option (List ℕ)
+text_in_front [] = Some []
+text_in_front (text ∷ rest) = with_next text (text_in_front rest)
+
 -- the readers of the files that are not read to their ends
 abbrev pub readers_of : {R : Type 0} → DefinitionFiles R → List R
 readers_of f = f.current ∷ f.waiting.items
@@ -28,6 +34,16 @@ calls_of f = f.calls.number
 -- those of them that failed
 abbrev pub failures_of : {R : Type 0} → DefinitionFiles R → ℕ
 failures_of f = f.failed.number
+
+-- the same of files that are read in front of other definitions
+abbrev pub libraries_left : {R : Type 0} → LibraryFiles R → List R
+libraries_left f = f.waiting.items
+
+abbrev pub library_calls : {R : Type 0} → LibraryFiles R → ℕ
+library_calls f = f.calls.number
+
+abbrev pub library_failures : {R : Type 0} → LibraryFiles R → ℕ
+library_failures f = f.failed.number
 
 -- the path of a file in front of the definitions
 abbrev pub path_of : Library → List ℕ
@@ -53,17 +69,25 @@ abbrev pub OfFiles : (List ℕ → Option (List ℕ)) → List (List ℕ) → Li
 OfFiles text_at libraries definitions relates = (files : List (List ℕ)) × AreNamed libraries files
     × IfSome (whole_text (texts_at text_at files definitions)) relates
 
--- a relation of the text of the definitions by the paths that are named: without one that text is the input
+-- a relation of the definitions and of the term where the input has both in the joined form: the definitions are one
+-- text, those of the files that words name, each followed by a line feed, and those of the input
+abbrev pub OfJoinedFiles : (List ℕ → Option (List ℕ)) → Option (List ℕ) → List (List ℕ) →
+    (List ℕ → List ℕ → Type 0) → Type 0
+OfJoinedFiles text_at coming libraries relates = (files : List (List ℕ)) × AreNamed libraries files
+    × OfJoined coming (λ d t. IfSome (whole_text (map text_at files ++ Some d ∷ [])) (λ whole. relates whole t))
+
+-- a relation of the text of the definitions by the paths that are named: without one the input has them in the joined
+-- form
 abbrev pub OfDefinitions : (List ℕ → Option (List ℕ)) → Option (List ℕ) → List (List ℕ) → List (List ℕ) →
     (List ℕ → Type 0) → Type 0
-OfDefinitions text_at coming libraries [] relates = IfSome coming relates
+OfDefinitions text_at coming libraries [] relates = OfJoinedFiles text_at coming libraries (λ d t. relates d)
 OfDefinitions text_at coming libraries (definitions ∷ term) relates = OfFiles text_at libraries definitions relates
 
 -- a relation of the texts of the definitions and of the term by the paths that are named: without one the input has
 -- both in the joined form, and with one it has the term
 abbrev pub OfTexts : (List ℕ → Option (List ℕ)) → Option (List ℕ) → List (List ℕ) → List (List ℕ) →
     (List ℕ → List ℕ → Type 0) → Type 0
-OfTexts text_at coming libraries [] relates = OfJoined coming relates
+OfTexts text_at coming libraries [] relates = OfJoinedFiles text_at coming libraries relates
 OfTexts text_at coming libraries (definitions ∷ []) relates =
     OfFiles text_at libraries definitions (λ d. IfSome coming (relates d))
 OfTexts text_at coming libraries (definitions ∷ term ∷ more) relates =

@@ -89,11 +89,11 @@ abbrev pub TellsFault : Fault → ℕ → ℕ → Option (List ℕ) → Option (
 TellsFault Memory before after old new = Tells Memory before after old new
 TellsFault fault before after old new = TellsMore fault before after old new
 
--- opening, reading or memory failed, and the fault is told
+-- opening, reading or memory failed, and the fault is reported
 abbrev pub IsUnread : ℕ → ℕ → Option (List ℕ) → Option (List ℕ) → Type 0
 IsUnread before after old new = (fault : Fault) × IsReadingFault fault × TellsFault fault before after old new
 
--- nothing is told, of a write to the output that failed since the output was closed
+-- nothing is reported, of a write to the output that failed since the output was closed
 pub record IsSilent (is_closed : Bool) (writes : Failures) (fault : Fault) (before after : ℕ)
     (old new : Option (List ℕ)) : Type 0 where
   pub writing : fault ≡ Write
@@ -102,7 +102,7 @@ pub record IsSilent (is_closed : Bool) (writes : Failures) (fault : Fault) (befo
   pub unfailed : after ≡ before
   pub nothing : new ≡ old
 
--- a fault that stops a run is told, but for a failed write to an output that is closed: nobody reads it any more
+-- a fault that stops a run is reported, but for a failed write to an output that is closed: nobody reads it any more
 abbrev pub TellsStop : (is_closed : Bool) → Failures → Fault → ℕ → ℕ → Option (List ℕ) → Option (List ℕ) → Type 0
 TellsStop is_closed writes fault before after old new =
     TellsFault fault before after old new ⊎ IsSilent is_closed writes fault before after old new

@@ -36,7 +36,7 @@ writes_of stream = record {
   after = stream.writer.failed_writes stream.after;
 }
 
--- this is told on a stream, by its failed writes and its bytes before and after the run
+-- this is reported on a stream, by its failed writes and its bytes before and after the run
 abbrev pub Told : {E : Type 0} → Change E → (ℕ → ℕ → Option (List ℕ) → Option (List ℕ) → Type 0) → Type 0
 Told stream tells = tells (stream.writer.failed_writes stream.before) (stream.writer.failed_writes stream.after)
     (stream.writer.written stream.before) (stream.writer.written stream.after)
@@ -45,7 +45,7 @@ Told stream tells = tells (stream.writer.failed_writes stream.before) (stream.wr
 abbrev pub Gained : {W : Type 0} → Change W → (Option (List ℕ) → Option (List ℕ) → Type 0) → Type 0
 Gained stream gains = gains (stream.writer.written stream.before) (stream.writer.written stream.after)
 
--- the run stopped for a fault of this kind, which is told if it can be
+-- the run stopped for a fault of this kind, which is reported if it can be
 abbrev pub IsStopped : {W E : Type 0} → Change W → Change E → (Fault → Type 0) → Type 0
 IsStopped out diagnostics IsKind = (fault : Fault) × IsKind fault
     × Told diagnostics (TellsStop (out.writer.is_closed out.after) (writes_of out) fault)

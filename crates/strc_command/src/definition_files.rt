@@ -2,59 +2,11 @@
 ghost use Rattle.std.specs.Prelude.{◌≡◌, ◌∷◌, ◌++◌, [], map, IfOk};
 ghost use Rattle.strc_command.specs.Files.{whole_text, readers_of, calls_of, failures_of};
 
+use crate::progress::Progress;
 use std::alloc::{AllocError, Global};
 use std::collections::VecDeque;
 use std::io::ErrorKind;
 use str_pipeline::{Count, FileProgress, Source};
-
-/// How far files were read that are read one after another.
-#[derive(Drop)]
-struct Progress {
-    files: Vec<FileProgress>,
-    /// The index of the file that is read.
-    current: usize,
-}
-
-impl Progress {
-    /// The progress of this number of files, of which nothing was read.
-    fn new(alloc: Global, count: usize) -> Result<Progress, AllocError> {
-        let unread = FileProgress {
-            bytes: 0,
-            line_feeds: 0,
-            is_ended: false,
-        };
-        Ok(Progress {
-            files: Vec::from_elem(alloc, unread, count)?,
-            current: 0,
-        })
-    }
-
-    /// Notes that these bytes were read for the file that is read.
-    fn note(&mut self, piece: &[u8]) {
-        let Some(file) = self.files.get_mut(self.current) else {
-            return;
-        };
-        file.bytes = file.bytes.saturating_add(piece.len());
-        for byte in piece {
-            if *byte == b'\n' {
-                file.line_feeds = file.line_feeds.saturating_add(1);
-            }
-        }
-    }
-
-    /// Notes that all of the file was read.
-    fn end(&mut self) {
-        if let Some(file) = self.files.get_mut(self.current) {
-            file.is_ended = true;
-        }
-    }
-
-    /// Notes that all of the file was read, and that the next one is read now.
-    fn advance(&mut self) {
-        self.end();
-        self.current = self.current.saturating_add(1);
-    }
-}
 
 /// A reader of files as one text: the bytes of the files one after another, and a line feed between a file and the next one. Each read is at
 /// most one read of a file, and takes no memory.
@@ -134,6 +86,6 @@ impl<R: Source + Drop> Source for DefinitionFiles<R> {
     }
 
     fn files(&self) -> &[FileProgress] {
-        &self.progress.files
+        self.progress.files()
     }
 }

@@ -17,7 +17,7 @@ use str_pipeline::{
 use term_model::Fault;
 use term_model::term::{MAX_DEPTH, MAX_WEIGHT};
 
-/// Returns notes for a run that is reported so: they ask what the report tells. If memory for that is refused, they ask nothing.
+/// Returns notes for a run that is reported so: they ask what the report shows. If memory for that is refused, they ask nothing.
 pub(crate) fn notes_for(alloc: Global, reporting: Reporting<'_>) -> RunNotes {
     match inquiry_of(alloc, reporting) {
         Ok(inquiry) => RunNotes::asking(inquiry),
@@ -245,7 +245,7 @@ pub(crate) fn write_remarks<E: Sink>(
     Ok(())
 }
 
-/// Writes what is to be told of a run: tables of what it did, why it has no result, warnings, and then what it used, if that is asked for.
+/// Writes what is reported of a run: tables of what it did, why it has no result, warnings, and then what it used, if that is asked for.
 /// Where a write fails, nothing more is written.
 fn report_more<E: Sink>(
     alloc: Global,
@@ -276,7 +276,7 @@ fn report_remarks<E: Sink>(
     report_numbers(alloc, reporting.output.has_stats, notes, diagnostics);
 }
 
-/// Writes what is to be told of a run of which more is asked than its result.
+/// Writes what is reported of a run of which more is asked than its result.
 fn report_asked<E: Sink>(
     alloc: Global,
     reporting: Reporting<'_>,

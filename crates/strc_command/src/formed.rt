@@ -3,7 +3,7 @@ ghost use Rattle.std.specs.Prelude.{◌≡◌, ◌+◌, ◌≤◌, ◌⊎◌, if
 ghost use Rattle.term_model.specs.Limits.{max_budget};
 ghost use Rattle.prim_registry.specs.Entries.{IsHonest};
 ghost use Rattle.str_pipeline.specs.Faults.{is_read_fault, is_write_fault};
-ghost use Rattle.str_pipeline.specs.Joined.{OfJoined};
+ghost use Rattle.str_pipeline.specs.Joined.{OfJoinedAfter};
 ghost use Rattle.str_pipeline.specs.Transformation.{Ends, OfTwo};
 ghost use Rattle.str_pipeline.specs.Limits.{max_definitions, max_term};
 ghost use Rattle.str_pipeline.specs.Setting.{setting_of};
@@ -127,9 +127,10 @@ pub(crate) fn transform_in_form<D: Source, T: Source, W: Sink, M: PrimMeaning>(
 ///
 /// # Errors
 /// As of `transform_in_form`.
-pub(crate) fn transform_joined_in_form<I: Source, W: Sink, M: PrimMeaning>(
+pub(crate) fn transform_joined_in_form<L: Source, I: Source, W: Sink, M: PrimMeaning>(
     alloc: Global,
     keys: HashKeys,
+    libraries: &mut L,
     input: &mut I,
     form: Form,
     options: &Options,
@@ -139,23 +140,30 @@ pub(crate) fn transform_joined_in_form<I: Source, W: Sink, M: PrimMeaning>(
 ) -> Result<Status, Fault>
     requires budget { options.now.budget ≤ max_budget }
     requires honest { IsHonest M.answer registry.now }
-    ensures written { IfOk result (λ status. OfJoined (I.reader.coming input.old) (λ d t.
+    ensures written { IfOk result (λ status.
+        OfJoinedAfter (L.reader.coming libraries.old) (I.reader.coming input.old) (λ d t.
         HasWrittenIn form d t (setting_of M.answer registry.now options.now) status
         (W.writer.written out.old) (W.writer.written out.new))) }
-    ensures begun { IsErrOf result Fault.Write → OfJoined (I.reader.coming input.old) (λ d t.
+    ensures begun { IsErrOf result Fault.Write →
+        OfJoinedAfter (L.reader.coming libraries.old) (I.reader.coming input.old) (λ d t.
         HasBegunIn form d t (setting_of M.answer registry.now options.now)
         (W.writer.written out.old) (W.writer.written out.new)) }
     ensures ends { Ends W.writer out.old out.new result }
-    ensures read_failed { I.reader.failed_reads input.new ≡ I.reader.failed_reads input.old +
+    ensures read_failed { L.reader.failed_reads libraries.new + I.reader.failed_reads input.new
+        ≡ L.reader.failed_reads libraries.old + I.reader.failed_reads input.old +
         (if is_read_fault result then 1 else 0) }
     ensures bounded { I.reader.reads input.new ≤ I.reader.reads input.old + max_definitions + 7 +
         max_term + 1 }
 {
     if form == Form::Line {
-        return transform_joined_with_notes(alloc, keys, input, options, registry, notes, out);
+        return transform_joined_with_notes(
+            alloc, keys, libraries, input, options, registry, notes, out,
+        );
     }
     let mut line = Counted::new(Vec::new(alloc));
-    match transform_joined_with_notes(alloc, keys, input, options, registry, notes, &mut line) {
+    match transform_joined_with_notes(
+        alloc, keys, libraries, input, options, registry, notes, &mut line,
+    ) {
         Ok(status) => write_in_form(alloc, form, status, line.into_inner(), out),
         Err(Fault::Write) => Err(Fault::Memory),
         Err(fault) => Err(fault),

@@ -7,9 +7,9 @@ ghost use Rattle.str_pipeline.specs.Setting.{setting_of};
 ghost use Rattle.str_pipeline.specs.Faults.{HoldsRefusal};
 ghost use Rattle.str_pipeline.specs.Limits.{max_definitions, max_term};
 ghost use Rattle.strc_command.specs.Report.{exit_of, IsReported};
-ghost use Rattle.str_pipeline.specs.Joined.{OfJoined};
+ghost use Rattle.str_pipeline.specs.Joined.{OfJoinedAfter};
 ghost use Rattle.str_pipeline.specs.Transformation.{OfTwo};
-ghost use Rattle.strc_command.specs.Runs.{Runs, Told, change, reads_of};
+ghost use Rattle.strc_command.specs.Runs.{Runs, Told, change};
 
 use crate::ending::{notes_for, report_end};
 use crate::failure::Failure;
@@ -45,11 +45,12 @@ fn conclude<E: Sink>(
     }
 }
 
-/// Does the work where both texts come from `input`, in the joined form.
+/// Does the work where both texts come from `input`, in the joined form. The definitions come after the text of the libraries.
 #[tactic(auto, using(crate::proofs::CauseLaws::cause, crate::proofs::CauseLaws::stopped))]
-pub(crate) fn run_joined<I: Source, W: Sink, E: Sink, M: PrimMeaning>(
+pub(crate) fn run_joined<L: Source, I: Source, W: Sink, E: Sink, M: PrimMeaning>(
     alloc: Global,
     keys: HashKeys,
+    libraries: &mut L,
     input: &mut I,
     reporting: Reporting<'_>,
     options: &Options,
@@ -60,8 +61,14 @@ pub(crate) fn run_joined<I: Source, W: Sink, E: Sink, M: PrimMeaning>(
     requires budget { options.now.budget ≤ max_budget }
     requires honest { IsHonest M.answer registry.now }
     ensures status { result ≤ 4 }
-    ensures runs { Runs (OfJoined (I.reader.coming input.old))
-        (reads_of I.reader input.old input.new) reporting.entry.output
+    ensures runs { Runs
+        (OfJoinedAfter (L.reader.coming libraries.old) (I.reader.coming input.old))
+        (record {
+          before =
+              L.reader.failed_reads libraries.old + I.reader.failed_reads input.old;
+          after =
+              L.reader.failed_reads libraries.new + I.reader.failed_reads input.new;
+        }) reporting.entry.output
         (setting_of M.answer registry.now options.now) (change W.writer out.old out.new)
         (change E.writer diagnostics.old diagnostics.new) result }
     ensures unwritten { result ≡ 4 → W.writer.failed_writes out.new ≡
@@ -73,18 +80,37 @@ pub(crate) fn run_joined<I: Source, W: Sink, E: Sink, M: PrimMeaning>(
         max_term + 1 }
 {
     let mut notes = notes_for(alloc, reporting);
-    let form = reporting.output.form;
-    match transform_joined_in_form(alloc, keys, input, form, options, registry, &mut notes, out) {
-        Ok(status) => conclude(
-            alloc,
-            status,
-            options.budget,
-            reporting,
-            &notes,
-            diagnostics,
-        ),
+    match transform_joined_in_form(
+        alloc,
+        keys,
+        libraries,
+        input,
+        reporting.output.form,
+        options,
+        registry,
+        &mut notes,
+        out,
+    ) {
+        Ok(status) => {
+            let reporting = Reporting {
+                files: libraries.files(),
+                ..reporting
+            };
+            conclude(
+                alloc,
+                status,
+                options.budget,
+                reporting,
+                &notes,
+                diagnostics,
+            )
+        }
         Err(fault) => {
-            let reading = Failure::of_reading(reporting, input.failure(), None);
+            let reporting = Reporting {
+                files: libraries.files(),
+                ..reporting
+            };
+            let reading = Failure::of_reading(reporting, libraries.failure(), input.failure());
             stop_run(alloc, &fault, reading, out, diagnostics)
         }
     }

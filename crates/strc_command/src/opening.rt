@@ -2,12 +2,13 @@
 ghost use Rattle.std.specs.Prelude.{◌≡◌, map, ℕ, List, IfErr, IfOk};
 ghost use Rattle.str_pipeline.specs.Faults.{IsReadingFault};
 ghost use Rattle.strc_command.specs.Elements.{texts_in};
-ghost use Rattle.strc_command.specs.Files.{AreNamed, IsNamed, path_of, readers_of, texts_at};
+ghost use Rattle.strc_command.specs.Files.{AreNamed, IsNamed, libraries_left, path_of, readers_of, texts_at};
 ghost use Rattle.strc_command.specs.Report.{IsUnread};
 ghost use Rattle.strc_command.specs.Runs.{Told, change};
 
 use crate::definition_files::DefinitionFiles;
 use crate::failure::Failure;
+use crate::library_files::LibraryFiles;
 use crate::paths::{Paths, installed};
 use crate::stopping::{stop, stop_reading};
 use std::alloc::Global;
@@ -29,7 +30,7 @@ pub(crate) struct Library {
     pub(crate) is_prelude: bool,
 }
 
-/// A file that could not be opened: the fault, and what a person is told.
+/// A file that could not be opened: the fault, and what is reported to a person.
 #[derive(Drop)]
 pub(crate) struct Unopened<'a> {
     pub(crate) fault: Fault,
@@ -184,6 +185,34 @@ pub(crate) fn open_definitions<P: Paths, E: Sink>(
     };
     let last = open_reader(alloc, paths, definitions, diagnostics)?;
     match DefinitionFiles::new(alloc, readers, last) {
+        Ok(files) => Ok(files),
+        Err(_) => Err(stop(&Fault::Memory, diagnostics)),
+    }
+}
+
+/// Opens the files of libraries, in their order, in front of definitions that come from elsewhere. If one cannot be opened, reports why, and
+/// returns 4 as the error; those after it are not opened.
+#[tactic(auto, using(crate::proofs::CauseLaws::alone_told))]
+pub(crate) fn open_in_front<P: Paths, E: Sink>(
+    alloc: Global,
+    paths: &mut P,
+    libraries: &[Library],
+    diagnostics: &mut E,
+) -> Result<LibraryFiles<P::Reader>, u8>
+    ensures opened { IfOk result (λ files. diagnostics.new ≡ diagnostics.old) }
+    ensures texts { IfOk result (λ files. map P.Reader.reader.coming (libraries_left files)
+        ≡ map (P.text_at paths.old) (map path_of libraries.now)) }
+    ensures stopped { IfErr result (λ status. (status ≡ 4) ×
+        Told (change E.writer diagnostics.old diagnostics.new) IsUnread) }
+{
+    let readers = match open_libraries(alloc, paths, libraries) {
+        Ok(readers) => readers,
+        Err(unopened) => {
+            let Unopened { fault, failure } = unopened;
+            return Err(stop_reading(alloc, &fault, failure, diagnostics));
+        }
+    };
+    match LibraryFiles::new(alloc, readers) {
         Ok(files) => Ok(files),
         Err(_) => Err(stop(&Fault::Memory, diagnostics)),
     }

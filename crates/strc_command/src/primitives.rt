@@ -81,7 +81,7 @@ pub fn run_standard<P: Paths, I: Source, W: Sink, E: Sink>(
         (change W.writer out.old out.new)
         (change E.writer diagnostics.old diagnostics.new) result)) }
     ensures joined { IfOk words.now (λ ws. IfSome (asked_of (map string_bytes (drop 1 ws.items)))
-        (λ asked. asked.checks ≡ false → asked.paths ≡ [] →
+        (λ asked. asked.checks ≡ false → asked.paths ≡ [] → asked.libraries ≡ [] →
         RunsJoined asked (I.reader.coming input.old) (reads_of I.reader input.old input.new)
         standard_setting (change W.writer out.old out.new)
         (change E.writer diagnostics.old diagnostics.new) result)) }

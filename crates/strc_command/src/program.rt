@@ -13,7 +13,8 @@ ghost use Rattle.str_pipeline.specs.Transformation.{OfTwo};
 ghost use Rattle.strc_command.specs.Runs.{IsAnswered, IsDone, Runs, RunsJoined, RunsPlain, Stops, WritesText, change, reads_of};
 
 use crate::checking::run_check;
-use crate::open_streams::{run_apart, run_joined};
+use crate::joined::run_input;
+use crate::open_streams::run_apart;
 use crate::opening::{find_libraries, open_definitions, open_reader};
 use crate::paths::Paths;
 use crate::report::{INPUT, Reporting};
@@ -226,7 +227,8 @@ fn run_texts<P: Paths, I: Source, W: Sink, E: Sink, M: PrimMeaning>(
     requires budget { options.now.budget ≤ max_budget }
     requires honest { IsHonest M.answer registry.now }
     ensures status { result ≤ 4 }
-    ensures joined { request.now.texts ≡ Joined → Runs (OfJoined (I.reader.coming input.old))
+    ensures joined { request.now.texts ≡ Joined → texts_in request.now.libraries.items ≡ [] →
+        Runs (OfJoined (I.reader.coming input.old))
         (reads_of I.reader input.old input.new) request.now.output
         (setting_of M.answer registry.now options.now) (change W.writer out.old out.new)
         (change E.writer diagnostics.old diagnostics.new) result }
@@ -242,19 +244,17 @@ fn run_texts<P: Paths, I: Source, W: Sink, E: Sink, M: PrimMeaning>(
         max_term + 1 }
 {
     match request.texts {
-        Texts::Joined => {
-            let reporting = Reporting::new(request, &[], INPUT, INPUT);
-            run_joined(
-                alloc,
-                keys,
-                input,
-                reporting,
-                options,
-                registry,
-                out,
-                diagnostics,
-            )
-        }
+        Texts::Joined => run_input(
+            alloc,
+            keys,
+            request,
+            paths,
+            input,
+            options,
+            registry,
+            out,
+            diagnostics,
+        ),
         Texts::Definitions(path) => run_with_input(
             alloc,
             keys,
@@ -299,6 +299,7 @@ fn run_request<P: Paths, I: Source, W: Sink, E: Sink, M: PrimMeaning>(
         (setting_of M.answer registry.now) (change W.writer out.old out.new)
         (change E.writer diagnostics.old diagnostics.new) result }
     ensures joined { request.now.checks ≡ false → request.now.texts ≡ Joined →
+        texts_in request.now.libraries.items ≡ [] →
         RunsJoined (asked_in request.now) (I.reader.coming input.old)
         (reads_of I.reader input.old input.new) (setting_of M.answer registry.now)
         (change W.writer out.old out.new) (change E.writer diagnostics.old diagnostics.new) result }
@@ -402,26 +403,27 @@ fn range_of(kind: ErrorKind) -> &'static str {
 
 /// Does what the words of the command line ask for, of which the first is the name of the program: `[--rules N | --no-limit] [--main NAME]
 /// [--strict] [--stats] [--explain] [--raw | --pretty] [--check] [--with FILE].. [DEFS [TERM]]`. It transforms the definitions of the file DEFS and the
-/// term of the file TERM; without TERM the term comes from `input`, and without both paths the joined form does. The definitions are one text
-/// (`whole_text`): the bytes of each file of `--with`, a line feed after each, and those of DEFS. Definitions may call the primitives of the
-/// registry and the strategies of the library. The line of the answer goes to `out`; with `--raw` a string as its bytes, and with `--pretty`
-/// a result in several lines. Files are opened before anything is read: those of `--with` in their order, DEFS and TERM. With `--check` it
-/// judges the definitions alone, those of the files and else of `input`: `diagnostics` gets the first hundred faults, the first hundred
-/// warnings, and how many there are if that is more, and `out` nothing.
+/// term of the file TERM; without TERM the term comes from `input`, and without both paths `input` has the joined form. The definitions are
+/// one text (`whole_text`): the bytes of each file of `--with`, a line feed after each, and those of DEFS, or those of `input` before the
+/// first line `#term`. Definitions may call the primitives of the registry and the strategies of the library. The line of the answer goes
+/// to `out`; with `--raw` a string as its bytes, and with `--pretty` a result in several lines. Files are opened before anything is read:
+/// those of `--with` in their order, DEFS and TERM. With `--check` it judges the definitions alone, and what comes after the line `#term`
+/// is not looked at: `diagnostics` gets the first hundred faults, the first hundred warnings, and how many there are if that is more, and
+/// `out` nothing.
 ///
 /// Returns the exit status: 0 where the term was rewritten, and for the help text and the version, which go to `out`; 1 where the strategy
 /// failed, 2 where the definitions or the term were refused, 3 where the budget was spent or a term was too large, 4 where memory, opening,
 /// reading or writing failed, and 5 where the words are wrong, and then nothing is read or written to `out`.
 ///
-/// For 2 and 4 a line on `diagnostics` reports the fault. In the joined form and for 4 that is `Read` exactly where a read of `input`
-/// failed, `Write` exactly where a write to `out` failed, and `Memory` else. For 2 lines for a person come after it: the name of the
-/// text, the line and the column, what is wrong, the line with a mark under the place, and a hint if what was meant can be guessed.
-/// For 4 one line for a person comes after `Read` and `Write`: what could not be opened, read or written and, where that is known, why.
-/// These lines are left out where memory for them is refused. Of a broken pipe, to which `out` writes, nothing is reported. For 3 a line
-/// says how large the budget was that was spent, or how large the term was, if that is known. Where the words ask why there is no result,
-/// lines say it next for 1 and 3, if memory for that was there. Where they ask for the numbers of the run, a line with them comes last
-/// for 0, 1 and 3. For 5 `diagnostics` says what is wrong with the words and, if the parser of the command line refused them, how to get
-/// the help text. A write to `diagnostics` that fails changes nothing.
+/// For 2 and 4 a line on `diagnostics` reports the fault. In the joined form without `--with` and for 4 that is `Read` exactly where a read
+/// of `input` failed, `Write` exactly where a write to `out` failed, and `Memory` else. For 2 lines for a person come after it: the name of
+/// the text, the line and the column, what is wrong, the line with a mark under the place, and a hint if what was meant can be guessed. For
+/// 4 one line for a person comes after `Read` and `Write`: what could not be opened, read or written and, where that is known, why. These
+/// lines are left out where memory for them is refused. Of a broken pipe, to which `out` writes, nothing is reported. For 3 a line says how
+/// large the budget was that was spent, or how large the term was, if that is known. Where the words ask why there is no result, lines say
+/// it next for 1 and 3, if memory for that was there. Where they ask for the numbers of the run, a line with them comes last for 0, 1
+/// and 3. For 5 `diagnostics` says what is wrong with the words and, if the parser of the command line refused them, how to get the help
+/// text. A write to `diagnostics` that fails changes nothing.
 #[tactic(auto, using(crate::proofs::CauseLaws::line_told))]
 pub fn run<P: Paths, I: Source, W: Sink, E: Sink, M: PrimMeaning>(
     alloc: Global,
@@ -445,7 +447,7 @@ pub fn run<P: Paths, I: Source, W: Sink, E: Sink, M: PrimMeaning>(
         (setting_of M.answer registry.now) (change W.writer out.old out.new)
         (change E.writer diagnostics.old diagnostics.new) result) }
     ensures joined { IfSome (asked_of (map string_bytes (drop 1 words.now))) (λ asked.
-        asked.checks ≡ false → asked.paths ≡ [] →
+        asked.checks ≡ false → asked.paths ≡ [] → asked.libraries ≡ [] →
         RunsJoined asked (I.reader.coming input.old)
         (reads_of I.reader input.old input.new) (setting_of M.answer registry.now)
         (change W.writer out.old out.new)

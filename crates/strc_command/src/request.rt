@@ -91,8 +91,6 @@ pub enum Misuse {
     FormOfCheck,
     /// A file of the term, where the definitions are checked.
     TermOfCheck,
-    /// Files in front of the definitions, and none of the definitions.
-    LibrariesAlone,
     /// A file of definitions that is named twice.
     RepeatedFile,
 }
@@ -122,7 +120,6 @@ impl Misuse {
                 "error: --check prints no result, so it takes neither --raw nor --pretty\n"
             }
             Misuse::TermOfCheck => "error: --check takes no TERM\n",
-            Misuse::LibrariesAlone => "error: --with needs DEFS\n",
             Misuse::RepeatedFile => "error: a file of definitions is named twice\n",
         }
     }
@@ -305,7 +302,7 @@ fn is_repeated(libraries: &[&str], paths: &[&str]) -> bool
     ensures { result ≡ is_repeated (texts_in libraries.now) (texts_in paths.now) }
 {
     let [definitions, ..] = paths else {
-        return false;
+        return has_repeats(libraries);
     };
     has_repeats(libraries) || is_among(libraries, definitions) && *definitions != PRELUDE_WORD
 }
@@ -354,9 +351,6 @@ fn misuse_of(items: &Items<'_>, values: &Values<'_>) -> Option<Misuse>
     }
     if let Some(misuse) = misuse_of_check(items, values) {
         return Some(misuse);
-    }
-    if !values.libraries.is_empty() && items.paths.is_empty() {
-        return Some(Misuse::LibrariesAlone);
     }
     if is_repeated(&values.libraries, &items.paths) {
         return Some(Misuse::RepeatedFile);

@@ -11,9 +11,9 @@ const USAGE: &str =
 /// The end of the help text.
 const EXAMPLES: &str = "\
 Without TERM the text of the term is standard input. Without both paths standard input has the definitions,
-a line '#term' and the text of the term. With --check there is no term, and standard input has definitions alone.
+a line '#term' and the text of the term. With --check there is no term, and nothing after that line is looked at.
 
-The files of --with and then DEFS are read as one text, with a line feed between a file and the next one. The word
+The files of --with, a line feed after each, and then the other definitions are read as one text. The word
 prelude stands for the prelude that is installed with the program, and ./prelude for a file of that name.
 
 Definitions may call the library (try, repeat, topdown, bottomup, oncetd, oncebu, alltd, innermost, map) and, by
@@ -62,7 +62,7 @@ const FAILURES: &str = "With --trace: print only the calls that fail";
 const CHECK: &str = "Check the definitions alone: print the faults and warnings on standard error";
 
 const WITH: &str =
-    "A file of definitions that is read in front of DEFS; may be given more than once";
+    "A file of definitions that is read in front of the others; may be given more than once";
 
 const RAW: &str = "Print a result that is a string as its bytes, without quotes and line feed";
 
@@ -96,7 +96,7 @@ fn library<'a>(alloc: Global) -> Arg<'a> {
         .help(WITH)
 }
 
-/// Returns the option for a definition whose calls are told, which may be given more than once.
+/// Returns the option for a definition whose calls are shown, which may be given more than once.
 fn traced<'a>(alloc: Global) -> Arg<'a> {
     Arg::new(alloc, "trace")
         .long("trace")

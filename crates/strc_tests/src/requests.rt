@@ -155,6 +155,21 @@ const REQUESTS: &[(&str, Wanted)] = &[
         },
     ),
     (
+        "strc --with lib.str --with prelude",
+        Wanted {
+            libraries: "lib.str prelude",
+            ..JOINED
+        },
+    ),
+    (
+        "strc --check --with lib.str",
+        Wanted {
+            checks: true,
+            libraries: "lib.str",
+            ..JOINED
+        },
+    ),
+    (
         "strc --raw a.str b.trm",
         Wanted {
             output: OutputOptions {
@@ -247,7 +262,10 @@ const REFUSALS: &[(&str, Unasked)] = &[
     ("strc --pretty --raw", Unasked::Misuse(Misuse::TwoForms)),
     ("strc --check --raw a", Unasked::Misuse(Misuse::FormOfCheck)),
     ("strc --check a b", Unasked::Misuse(Misuse::TermOfCheck)),
-    ("strc --with a", Unasked::Misuse(Misuse::LibrariesAlone)),
+    (
+        "strc --with a --with a",
+        Unasked::Misuse(Misuse::RepeatedFile),
+    ),
     ("strc --with a a", Unasked::Misuse(Misuse::RepeatedFile)),
 ];
 

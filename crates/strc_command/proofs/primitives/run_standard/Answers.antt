@@ -65,7 +65,7 @@ returns-in-Ok-words-clause-joined g c =
     c.loop-primitive.invariant.registered in
     rw (c.in-Ok-words.is, sym c.deref.ensures.value)
     (subst (λ (names : List NameKey). IfSome (asked_of (map (string_bytes {Z = Global})
-    (drop 1 c.deref.result.now))) (λ asked. asked.checks ≡ false → asked.paths ≡ [] →
+    (drop 1 c.deref.result.now))) (λ asked. asked.checks ≡ false → asked.paths ≡ [] → asked.libraries ≡ [] →
     RunsJoined asked (g.I.Source.reader.coming c.args.input.now)
     (reads_of g.I.Source.reader c.args.input.now c.run.new.input) (setting_with standard names)
     (change g.W.Sink.writer c.args.out.now c.run.new.out)

@@ -13,11 +13,12 @@ returns-in-Err-Memory-clause-stops g c =
 
 pub returns-in-Err-Memory-clause-joined : goal.returns-in-Err-Memory-clause-joined
 returns-in-Err-Memory-clause-joined g c =
-    let all : (asked : Asked) → asked.checks ≡ false → asked.paths ≡ [] → RunsJoined asked
-    (g.I.Source.reader.coming c.args.input.now) (reads_of g.I.Source.reader c.args.input.now c.args.input.now)
+    let all : (asked : Asked) → asked.checks ≡ false → asked.paths ≡ [] → asked.libraries ≡ [] →
+    RunsJoined asked (g.I.Source.reader.coming c.args.input.now)
+    (reads_of g.I.Source.reader c.args.input.now c.args.input.now)
     (setting_of g.M.PrimMeaning.answer c.args.registry.now) (change g.W.Sink.writer c.args.out.now c.args.out.now)
     (change g.E.Sink.writer c.args.diagnostics.now c.stop.new.diagnostics) c.stop.result =
-    λ asked rewrites none. memory_joined asked (g.I.Source.reader.coming c.args.input.now) g.I.Source.reader
+    λ asked rewrites none alone. memory_joined asked (g.I.Source.reader.coming c.args.input.now) g.I.Source.reader
     (setting_of g.M.PrimMeaning.answer c.args.registry.now) g.W.Sink.writer g.E.Sink.writer c.args.input.now
     c.args.out.now c.args.diagnostics.now c.stop.new.diagnostics _ c.stop.ensures.status c.stop.ensures.told in
     whatever (asked_of (map (string_bytes {Z = Global}) (drop 1 c.args.words.now))) _ all
@@ -39,4 +40,5 @@ returns-clause-plain g c = λ few.
     (change g.E.Sink.writer c.args.diagnostics.now c.run_request.new.diagnostics) c.run_request.result plain
     c.run_request.ensures.done.status
     (c.run_request.ensures.joined (ap (λ (a : Asked). a.checks) plain)
-    (joined_texts c.in-Ok.request.texts (ap (λ (a : Asked). a.paths) plain)))
+    (joined_texts c.in-Ok.request.texts (ap (λ (a : Asked). a.paths) plain))
+    (ap (λ (a : Asked). a.libraries) plain))

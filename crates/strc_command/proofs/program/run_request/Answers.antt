@@ -5,7 +5,7 @@ use Rattle.strc_command.proofs.CauseLaws.{memory_joined, memory_stops}
 use Rattle.strc_command.proofs.program.run_request.Goals as goal
 
 pub returns-in_default-clause-joined : goal.returns-in_default-clause-joined
-returns-in_default-clause-joined g c = λ rewrites joined.
+returns-in_default-clause-joined g c = λ rewrites joined alone.
     memory_joined (asked_in c.args.request.now) (g.I.Source.reader.coming c.args.input.now) g.I.Source.reader
     (setting_of g.M.PrimMeaning.answer c.args.registry.now) g.W.Sink.writer g.E.Sink.writer c.args.input.now
     c.args.out.now c.args.diagnostics.now c.stop.new.diagnostics _ c.stop.ensures.status c.stop.ensures.told
@@ -32,8 +32,8 @@ returns-clause-done g c = record {
 }
 
 pub returns-clause-joined : goal.returns-clause-joined
-returns-clause-joined g c = λ rewrites joined.
-    let runs = c.run_texts.ensures.joined joined in record {
+returns-clause-joined g c = λ rewrites joined alone.
+    let runs = c.run_texts.ensures.joined joined alone in record {
       ended = λ below. (c.in-Ok.options, c.in-Ok.ensures, runs.ended below);
       stopped = runs.stopped;
       begun = λ more. (c.in-Ok.options, c.in-Ok.ensures, runs.begun more);
