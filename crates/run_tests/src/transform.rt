@@ -11,6 +11,7 @@ mod keys;
 mod language_rows;
 mod library_rows;
 mod long_rows;
+mod many_terms;
 mod memory;
 mod option_rows;
 mod pipeline;

@@ -10,7 +10,7 @@ use Rattle.str_pipeline.specs.Judged.{AreRefused}
 use Rattle.str_pipeline.specs.Verdict.{IsVerdict}
 use Rattle.str_pipeline.specs.Limits.{max_definitions}
 use Rattle.str_pipeline.specs.Setting.{Setting}
-use Rattle.str_pipeline.specs.Steps.{IsStop, IsProgram, IsTermRead}
+use Rattle.str_pipeline.specs.Steps.{IsStop, IsCompiled, IsTermRead}
 use Rattle.str_pipeline.proofs.CheckLaws.{no_check_fault, check_fault_refuses}
 
 -- a refusal is no fault of memory, reading or writing
@@ -61,7 +61,7 @@ pub reading_apart : (fault : Fault) → IsReadingFault fault → IsOfDefinitions
 reading_apart fault reading of_definitions = omega arith
 
 -- those of making a program of definitions
-pub program_stops : (S : Setting) (defs : List ℕ) (fault : Fault) → IsProgram S defs (Err fault) → IsStop fault
+pub program_stops : (S : Setting) (defs : List ℕ) (fault : Fault) → IsCompiled S defs (Err fault) → IsStop fault
 program_stops S defs faults.Memory made = inl (omega arith, omega arith)
 program_stops S defs (faults.Lexical at) made = inr (omega arith, omega arith)
 program_stops S defs (faults.ReservedWord at) made = inr (omega arith, omega arith)
@@ -69,14 +69,14 @@ program_stops S defs (faults.Syntax at) made = inr (omega arith, omega arith)
 program_stops S defs (faults.Nesting at) made = inr (omega arith, omega arith)
 program_stops S defs fault made = inr (check_fault_refuses fault made)
 
-pub program_no_read : (S : Setting) (defs : List ℕ) (fault : Fault) → IsProgram S defs (Err fault) →
+pub program_no_read : (S : Setting) (defs : List ℕ) (fault : Fault) → IsCompiled S defs (Err fault) →
     is_read fault ≡ false
 program_no_read S defs faults.Read made = absurd (no_check_fault faults.Read made (λ numbered. omega arith))
 program_no_read S defs _ made = refl
 
 -- with such a fault, if it is not one of memory, definitions of this length are refused
 pub program_refused : (S : Setting) (defs : List ℕ) (fault : Fault) → length defs ≤ max_definitions →
-    2 < number_of fault → IsProgram S defs (Err fault) → AreRefused S defs fault
+    2 < number_of fault → IsCompiled S defs (Err fault) → AreRefused S defs fault
 program_refused S defs faults.Memory short high made = absurd (omega arith)
 program_refused S defs faults.DefsTooLong short high made =
     absurd (no_check_fault faults.DefsTooLong made (λ numbered. omega arith))

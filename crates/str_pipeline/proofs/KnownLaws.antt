@@ -17,9 +17,9 @@ use Rattle.scope_check.proofs.PrimitiveLaws.{holds-contains, is_holds}
 use Rattle.str_desugar.specs.FileProgram.{program_of_file}
 use Rattle.str_desugar.proofs.PrimitivesInFiles.{known_primitives}
 use Rattle.str_pipeline.specs.declared.status.Options.{Options}
-use Rattle.str_pipeline.specs.declared.program.Program.{Program}
+use Rattle.str_pipeline.specs.declared.compiled.CompiledFile.{CompiledFile}
 use Rattle.str_pipeline.specs.Setting.{Setting, setting_with}
-use Rattle.str_pipeline.specs.Steps.{IsProgram}
+use Rattle.str_pipeline.specs.Steps.{IsCompiled}
 use Rattle.term_model.specs.declared.fault.Fault.{Fault}
 
 module _ (xs ys : List NameKey) (same : HaveSame xs ys) where
@@ -33,9 +33,9 @@ module _ (xs ys : List NameKey) (same : HaveSame xs ys) where
   same_setting M options = λ i. record { options = options; has_primitive = λ f n. held_alike f n i; meaning = M }
 
   -- and one program
-  pub program_alike : (M : Meaning) (options : Options) (text : List ℕ) (made : Result Program Fault) →
-      IsProgram (setting_with M xs options) text made → IsProgram (setting_with M ys options) text made
-  program_alike M options text made = subst (λ (S : Setting). IsProgram S text made) (same_setting M options)
+  pub compiled_alike : (M : Meaning) (options : Options) (text : List ℕ) (made : Result CompiledFile Fault) →
+      IsCompiled (setting_with M xs options) text made → IsCompiled (setting_with M ys options) text made
+  compiled_alike M options text made = subst (λ (S : Setting). IsCompiled S text made) (same_setting M options)
 
 -- a registry of these names has each of those that are among them
 pub covered : (prims names entries : List NameKey) → HaveSame names entries →

@@ -6,6 +6,7 @@ pub mod FaultLaws
 pub mod KnownLaws
 pub mod MemoryLaws
 pub mod ProgramLaws
+pub mod ReadyLaws
 pub mod SplitLaws
 pub mod WrittenLaws
 pub mod OneLine

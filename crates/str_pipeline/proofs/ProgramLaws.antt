@@ -20,7 +20,7 @@ use Rattle.str_desugar.specs.FileProgram.{program_of_file}
 use Rattle.strategy_lib.specs.Library.{with_library}
 use Rattle.str_pipeline.specs.Judged.{AreTokens, IsFile, FailsChecks, PassesChecks}
 use Rattle.str_pipeline.specs.Setting.{Setting}
-use Rattle.str_pipeline.specs.Steps.{IsProgram}
+use Rattle.str_pipeline.specs.Steps.{IsCompiled}
 use Rattle.str_pipeline.proofs.CheckLaws.{no_check_fault}
 
 -- the tokens that were read
@@ -39,7 +39,8 @@ read_file text ts file lexed parsed = record {
 }
 
 -- bytes that are no tokens, or hold a word of a part that is left out
-pub no_tokens : (S : Setting) (text : List ℕ) (fault : Fault) → IsLexing text (Err fault) → IsProgram S text (Err fault)
+pub no_tokens : (S : Setting) (text : List ℕ) (fault : Fault) → IsLexing text (Err fault) →
+    IsCompiled S text (Err fault)
 no_tokens S text faults.Memory lexed = tt
 no_tokens S text (faults.Lexical at) lexed = lexed
 no_tokens S text (faults.ReservedWord at) lexed = lexed
@@ -47,7 +48,7 @@ no_tokens S text _ lexed = absurd lexed
 
 -- tokens that are no file
 pub no_file : (S : Setting) (text : List ℕ) (ts : Vec Token Global) (refusal : ParseRefusal) → IsLexing text (Ok ts) →
-    IsParsing (lexemes text ts.items) (Err (fault_of refusal)) → IsProgram S text (Err (fault_of refusal))
+    IsParsing (lexemes text ts.items) (Err (fault_of refusal)) → IsCompiled S text (Err (fault_of refusal))
 no_file S text ts refusals.Memory lexed parsed = tt
 no_file S text ts (refusals.Syntax at _) lexed parsed =
     record { tokens = ts.items; are_tokens = read_tokens text ts lexed; not_nested = parsed.1; none = parsed.0 }
@@ -65,7 +66,7 @@ fails S text file whole fault is extended found = record {
 }
 
 -- there is no program of it
-refused : (S : Setting) (text : List ℕ) (fault : Fault) → FailsChecks S text fault → IsProgram S text (Err fault)
+refused : (S : Setting) (text : List ℕ) (fault : Fault) → FailsChecks S text fault → IsCompiled S text (Err fault)
 refused S text faults.Memory bad = tt
 refused S text (faults.Lexical at) bad = absurd (no_check_fault (faults.Lexical at) bad (λ numbered. omega arith))
 refused S text (faults.ReservedWord at) bad =
@@ -74,7 +75,7 @@ refused S text (faults.Syntax at) bad = absurd (no_check_fault (faults.Syntax at
 refused S text (faults.Nesting at) bad = absurd (no_check_fault (faults.Nesting at) bad (λ numbered. omega arith))
 refused S text _ bad = bad
 
-no_memory : (S : Setting) (text : List ℕ) (fault : Fault) → fault ≡ faults.Memory → IsProgram S text (Err fault)
+no_memory : (S : Setting) (text : List ℕ) (fault : Fault) → fault ≡ faults.Memory → IsCompiled S text (Err fault)
 no_memory S text fault is = rw is tt
 
 -- what the checks refuse
@@ -82,7 +83,7 @@ pub not_passed : (S : Setting) (text : List ℕ) (ts : Vec Token Global) (file w
     IsLexing text (Ok ts)
     → IsParsing (lexemes text ts.items) (Ok file) → file_of whole ≡ with_library (file_of file)
     → ((fault ≡ faults.Memory) ⊎ (first_fault S.has_primitive (file_of whole) S.options.main.items ≡ Some fault)) →
-    IsProgram S text (Err fault)
+    IsCompiled S text (Err fault)
 not_passed S text ts file whole fault lexed parsed extended (inl is) = no_memory S text fault is
 not_passed S text ts file whole fault lexed parsed extended (inr found) =
     refused S text fault (fails S text file whole fault (read_file text ts file lexed parsed) extended found)

@@ -18,7 +18,7 @@ use Rattle.str_pipeline.specs.Limits.{max_definitions, max_term}
 use Rattle.str_pipeline.specs.Setting.{Setting}
 use Rattle.str_pipeline.specs.Judged.{AreAccepted, IsAccepted}
 use Rattle.str_pipeline.specs.Faults.{IsReadingFault, IsRefusal, is_read_fault}
-use Rattle.str_pipeline.specs.Steps.{IsProgram, IsProgramOf, IsTextOfRun, IsTermRead, IsResult, IsTextResult, status_of, outcome_line, text_line}
+use Rattle.str_pipeline.specs.Steps.{IsCompiled, IsProgramOf, IsTextOfRun, IsTermRead, IsResult, IsTextResult, status_of, outcome_line, text_line}
 use Rattle.str_pipeline.specs.declared.program.Program.{Program}
 use Rattle.str_pipeline.specs.declared.status.Status.{Status}
 use Rattle.std.specs.Prelude.{IfOk, OnOk, IsErrOf}
@@ -43,7 +43,7 @@ run_written defs term S f t Spent rules file spelled (none, all) = (f, t, file, 
 -- what a run says of each file that the program is of
 pub run_result : (S : Setting) (program : Program) (term : List ℕ) (t : Tree) (told : Outcome (Vec ℕ Global)) →
     length term ≤ max_term
-    → IsTermRead S.options.strict program.checked.declarations term (Ok t)
+    → IsTermRead S.options.strict program.signature term (Ok t)
     → IsTextOfRun S.meaning program.code t S.options.budget told
     → (defs : List ℕ) (f : FileTree) → AreAccepted S defs f → IsProgramOf S f program
     → IsTextResult defs term S (Ok told)
@@ -58,7 +58,7 @@ run_result S program term t told short (reading, declared) run defs f file of_fi
 
 -- what a term that is refused says of each file that the program is of
 pub term_fault : (S : Setting) (program : Program) (term : List ℕ) (fault : Fault) → length term ≤ max_term
-    → IsTermRead S.options.strict program.checked.declarations term (Err fault)
+    → IsTermRead S.options.strict program.signature term (Err fault)
     → (defs : List ℕ) (f : FileTree) → AreAccepted S defs f → IsProgramOf S f program
     → IsResult defs term S (Err fault)
 term_fault S program term faults.Memory short reading defs f file of_file = tt
@@ -146,7 +146,7 @@ told_then (Some bytes) X Y known then = then bytes known
 
 -- a fault of the definitions is the first
 pub program_fault : (defs term : List ℕ) (S : Setting) (fault : Fault) → length defs ≤ max_definitions →
-    IsProgram S defs (Err fault)
+    IsCompiled S defs (Err fault)
     → IsResult defs term S (Err fault)
 program_fault defs term S faults.Memory short made = tt
 program_fault defs term S (faults.Lexical at) short made = inl (short, made)

@@ -5,6 +5,7 @@ use Rattle.std.specs.Global.{Global}
 use Rattle.term_model.specs.declared.fault.Fault.{Fault}
 use Rattle.term_model.specs.declared.fault.Fault.TheVariants.{Memory, Read, Lexical, ReservedWord, Syntax, Nesting, TermUndeclared}
 use Rattle.term_model.specs.Flat.{Meaning}
+use Rattle.term_model.specs.PrimNames.{NameKey}
 use Rattle.term_model.specs.Term.{Tree}
 use Rattle.aterm_text.specs.Text.{text}
 use Rattle.aterm_text.specs.ReadTerm.{IsReading}
@@ -22,11 +23,14 @@ use Rattle.signature_core.specs.Signature.{Declared, declarations_of}
 use Rattle.signature_core.specs.DeclaredTerm.{term_is_declared}
 use Rattle.strat_code.specs.CodeOf.{CodeParts, code_of}
 use Rattle.strat_code.specs.StandsFor.{StandsFor}
+use Rattle.strat_machine.specs.LoadedCode.{IsLoadedIn}
+use Rattle.term_store.specs.StoredTerms.{stored_terms}
 use Rattle.str_desugar.specs.FileProgram.{program_of_file}
 use Rattle.str_pipeline.specs.Judged.{AreRefused, HasNoTokens, AreTooNested, HasNoPhrase, FailsChecks, PassesChecks}
 use Rattle.str_pipeline.specs.Faults.{IsReadingFault, IsRefusal}
 use Rattle.str_pipeline.specs.Setting.{Setting}
 use Rattle.str_pipeline.specs.Written.{line_of, IsFirstFault, IsWritten}
+use Rattle.str_pipeline.specs.declared.compiled.CompiledFile.{CompiledFile}
 use Rattle.str_pipeline.specs.declared.program.Program.{Program}
 use Rattle.str_pipeline.specs.declared.status.Status.{Status}
 use Rattle.str_pipeline.specs.declared.status.Status.TheVariants.{Rewritten, Failed, Oversize, Spent}
@@ -44,20 +48,34 @@ pub record IsCodeOf (S : Setting) (f : FileTree) (code : CodeParts) : Type 0 whe
   pub occurring : AreOccurring code.prims core
   pub resolved : ResolvesProgram (program_of_file f) (written S.options.main.items) core main
 
--- the declarations and the code are those of the file
+-- the declarations and the code that were made are those of the file
+pub record IsCompiledOf (S : Setting) (f : FileTree) (compiled : CompiledFile) : Type 0 where
+  pub declared : compiled.checked.declarations ≡ declarations_of f
+  pub code : IsCodeOf S f compiled.code
+
+-- what compiling definitions returns
+abbrev pub IsCompiled : Setting → List ℕ → Result CompiledFile Fault → Type 0
+IsCompiled S defs (Ok compiled) = (f : FileTree) × PassesChecks S defs f × IsCompiledOf S f compiled
+IsCompiled S defs (Err Memory) = Unit {0}
+IsCompiled S defs (Err (Lexical at)) = HasNoTokens defs
+IsCompiled S defs (Err (ReservedWord at)) = HoldsLeftOut defs
+IsCompiled S defs (Err (Nesting at)) = AreTooNested defs
+IsCompiled S defs (Err (Syntax at)) = HasNoPhrase defs
+IsCompiled S defs (Err fault) = FailsChecks S defs fault
+
+-- the declarations and the code of the program are those of the file
 pub record IsProgramOf (S : Setting) (f : FileTree) (program : Program) : Type 0 where
-  pub declared : program.checked.declarations ≡ declarations_of f
+  pub declared : program.signature ≡ declarations_of f
   pub code : IsCodeOf S f program.code
 
 -- what making the program of definitions returns
 abbrev pub IsProgram : Setting → List ℕ → Result Program Fault → Type 0
 IsProgram S defs (Ok program) = (f : FileTree) × PassesChecks S defs f × IsProgramOf S f program
-IsProgram S defs (Err Memory) = Unit {0}
-IsProgram S defs (Err (Lexical at)) = HasNoTokens defs
-IsProgram S defs (Err (ReservedWord at)) = HoldsLeftOut defs
-IsProgram S defs (Err (Nesting at)) = AreTooNested defs
-IsProgram S defs (Err (Syntax at)) = HasNoPhrase defs
-IsProgram S defs (Err fault) = FailsChecks S defs fault
+IsProgram S defs (Err fault) = IsCompiled S defs (Err fault)
+
+-- the code of the program is loaded in its store, with the primitives of these keys
+pub record IsReady (keys : List NameKey) (program : Program) : Type 0 where
+  pub loaded : IsLoadedIn stored_terms program.space keys program.loaded program.code
 
 -- what reading a term returns: in strict mode, one whose applications are among these declarations
 abbrev pub IsTermRead : Bool → List Declared → List ℕ → Result Tree Fault → Type 0

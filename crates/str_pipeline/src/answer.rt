@@ -1,28 +1,18 @@
-//! What a file does with a term, and the line that says so.
-ghost use Rattle.std.specs.Prelude.{◌≡◌, ◌+◌, ◌≤◌, ℕ, List, vec_len, false, if◌then◌else◌, IfOk, IfErr, OnOk, IsErrOf, IsTrue};
+//! Terms that are read, and the line of an outcome.
+ghost use Rattle.std.specs.Prelude.{◌≡◌, ◌+◌, false, if◌then◌else◌, IfOk, IfErr, OnOk, IsErrOf, IsTrue};
 ghost use Rattle.aterm_text.specs.ReadIn.{map_ok};
-ghost use Rattle.str_syntax.specs.Trees.{FileTree};
 ghost use Rattle.str_pipeline.specs.Device.{Gains, GainsPrefix};
-ghost use Rattle.prim_registry.specs.Entries.{IsHonest};
-ghost use Rattle.prim_registry.specs.RegistryNames.{Covers};
-ghost use Rattle.str_pipeline.specs.Limits.{max_term};
-ghost use Rattle.str_pipeline.specs.Setting.{setting_of};
-ghost use Rattle.str_pipeline.specs.Judged.{AreAccepted};
 ghost use Rattle.str_pipeline.specs.Written.{line_of, refusal_line};
-ghost use Rattle.str_pipeline.specs.Steps.{IsStop, IsProgramOf, IsTermRead, IsTextResult, status_of, text_line};
-ghost use Rattle.str_pipeline.specs.Faults.{IsOfDefinitions, IsTransferFault, is_read_fault, is_write_fault};
-ghost use Rattle.term_model.specs.Limits.{max_budget};
+ghost use Rattle.str_pipeline.specs.Steps.{IsTermRead, status_of, text_line};
+ghost use Rattle.str_pipeline.specs.Faults.{IsTransferFault, is_read_fault, is_write_fault};
+ghost use Rattle.term_model.specs.Space.{Keeps};
 ghost use Rattle.term_model.specs.Results.{Returns};
 
-use crate::program::Program;
-use crate::runs::{Holds, run_machine};
 use crate::sink::{Sink, write_all};
-use crate::status::{Options, Status};
+use crate::status::Status;
 use aterm_text::read_in;
 use core_lang::Outcome;
 use diagnostics::RunNotes;
-use prim_registry::{PrimMeaning, Registry};
-use scope_check::Checked;
 use signature_core::Signature;
 use std::alloc::{AllocError, Global};
 use term_model::{Fault, TermSpace};
@@ -47,6 +37,7 @@ fn read_term_in<S: TermSpace>(
     text: &[u8],
     is_strict: bool,
 ) -> Result<S::Ref, Fault>
+    ensures keeps { Keeps S.space space.old space.new }
     ensures stands { IfOk result (λ r. IsTrue (S.space.stands space.new r)) }
     ensures read { IsTermRead is_strict signature.now text.now
         (map_ok (S.space.term_of space.new) result) }
@@ -59,7 +50,7 @@ fn read_term_in<S: TermSpace>(
 }
 
 /// Reads a term as `read_term_in` does, and notes why it is refused where it is.
-fn noted_term<S: TermSpace>(
+pub(crate) fn noted_term<S: TermSpace>(
     alloc: Global,
     space: &mut S,
     signature: &Signature,
@@ -67,6 +58,7 @@ fn noted_term<S: TermSpace>(
     is_strict: bool,
     notes: &mut RunNotes,
 ) -> Result<S::Ref, Fault>
+    ensures keeps { Keeps S.space space.old space.new }
     ensures stands { IfOk result (λ r. IsTrue (S.space.stands space.new r)) }
     ensures read { IsTermRead is_strict signature.now text.now
         (map_ok (S.space.term_of space.new) result) }
@@ -79,56 +71,6 @@ fn noted_term<S: TermSpace>(
         }
     }
     term
-}
-
-/// Reads a term by the signature of the file, as `noted_term` does, and drops the file, and the text unless it is to be kept.
-fn term_alone<S: TermSpace>(
-    alloc: Global,
-    space: &mut S,
-    checked: Checked,
-    text: Vec<u8>,
-    is_strict: bool,
-    notes: &mut RunNotes,
-) -> Result<S::Ref, Fault>
-    ensures stands { IfOk result (λ r. IsTrue (S.space.stands space.new r)) }
-    ensures read { IsTermRead is_strict checked.declarations text.items
-        (map_ok (S.space.term_of space.new) result) }
-{
-    let term = noted_term(alloc, space, checked.signature(), &text, is_strict, notes)?;
-    notes.keep_term(text);
-    Ok(term)
-}
-
-/// Returns what the program does with the term of this text, with the primitives of the registry, and the canonical text of the
-/// result in place of the result. The term is read into the space, and the run takes place there. The fault is one of the term's, or
-/// `Memory`.
-#[tactic(auto, using(crate::proofs::WrittenLaws::run_written, crate::proofs::FaultLaws::text_stops, crate::proofs::FaultLaws::text_apart, crate::proofs::FaultLaws::text_no_read))]
-pub(crate) fn outcome_of<S: TermSpace + Holds + Drop, M: PrimMeaning>(
-    alloc: Global,
-    space: S,
-    program: Program,
-    text: Vec<u8>,
-    options: &Options,
-    registry: &Registry<M>,
-    notes: &mut RunNotes,
-) -> Result<Outcome<Vec<u8>>, Fault>
-    requires fits { vec_len text ≤ max_term }
-    requires budget { options.now.budget ≤ max_budget }
-    requires honest { IsHonest M.answer registry.now }
-    requires covers { Covers registry.now program.code.prims }
-    ensures result { (defs : List ℕ) (f : FileTree) →
-        AreAccepted (setting_of M.answer registry.now options.now) defs f →
-        IsProgramOf (setting_of M.answer registry.now options.now) f program →
-        IsTextResult defs text.items (setting_of M.answer registry.now options.now) result }
-    ensures kinds { IfErr result IsStop }
-    ensures apart { IfErr result (λ fault. IsOfDefinitions fault → ⊥) }
-    ensures read { is_read_fault result ≡ false }
-{
-    let Program { checked, code } = program;
-    let mut space = space;
-    let term = term_alone(alloc, &mut space, checked, text, options.strict, notes)?;
-    let outcome = run_machine(alloc, space, &code, term, options.budget, registry, notes)?;
-    Ok(outcome)
 }
 
 /// Returns the status of an outcome.

@@ -7,10 +7,10 @@ ghost use Rattle.str_pipeline.specs.Verdict.{IsVerdict};
 ghost use Rattle.str_pipeline.specs.Faults.{IsReadingFault, is_read_fault};
 
 use crate::answer::MAX_DEFINITIONS;
+use crate::compiled::{CompiledFile, compile_to_run};
 use crate::fault_remarks::add_faults;
 use crate::joined::read_definitions;
 use crate::pipeline::has_no_line;
-use crate::program::{Program, program_to_run};
 use crate::progress::library_bytes;
 use crate::rerun::Rerun;
 use crate::source::{Source, read_all};
@@ -112,9 +112,9 @@ fn verdict_on<M: PrimMeaning>(
     ensures kinds { IfErr result IsReadingFault }
     ensures read { is_read_fault result ≡ false }
 {
-    match program_to_run(alloc, keys, text, options, registry, notes) {
-        Ok(program) => {
-            note_warnings(alloc, text, &program, notes);
+    match compile_to_run(alloc, keys, text, options, registry, notes) {
+        Ok(compiled) => {
+            note_warnings(alloc, text, &compiled, notes);
             Ok(None)
         }
         Err(fault) => {
@@ -127,9 +127,9 @@ fn verdict_on<M: PrimMeaning>(
     }
 }
 
-/// Notes warnings about the definitions of this program, if memory for them is there.
-fn note_warnings(alloc: Global, text: &[u8], program: &Program, notes: &mut RunNotes) {
-    let definitions = Definitions::of_checked(text, notes.library(), &program.checked);
+/// Notes warnings about the definitions of this file, if memory for them is there.
+fn note_warnings(alloc: Global, text: &[u8], compiled: &CompiledFile, notes: &mut RunNotes) {
+    let definitions = Definitions::of_checked(text, notes.library(), &compiled.checked);
     let mut remarks = Vec::new(alloc);
     if add_warnings(alloc, &definitions, &mut remarks).is_ok() {
         notes.note_explanation(Explanation::new(remarks));

@@ -4,8 +4,8 @@ ghost use Rattle.term_model.specs.Limits.{max_budget};
 ghost use Rattle.prim_registry.specs.Entries.{IsHonest};
 
 use crate::checking::{findings_in, variable_warnings_in};
+use crate::compiled::{CompiledFile, Purpose, compile_file};
 use crate::explainer::Explainer;
-use crate::program::{Program, Purpose, make_program};
 use crate::rerun::{Evidence, Rerun, run_again};
 use crate::run_tables::tables_of;
 use crate::status::{Options, Status};
@@ -104,7 +104,7 @@ fn explanation_of<M: PrimMeaning>(
     requires budget { rerun.budget ≤ max_budget }
     requires honest { IsHonest M.answer registry.now }
 {
-    let program = make_program(
+    let compiled = compile_file(
         alloc,
         rerun.keys,
         rerun.definitions,
@@ -112,15 +112,15 @@ fn explanation_of<M: PrimMeaning>(
         registry,
         Purpose::Explanation,
     )?;
-    let run = run_again(alloc, &program.code, rerun, registry)?;
-    explanation_in(alloc, rerun, &program, &run, options.budget > MOST_RULES)
+    let run = run_again(alloc, &compiled.code, rerun, registry)?;
+    explanation_in(alloc, rerun, &compiled, &run, options.budget > MOST_RULES)
 }
 
-/// Returns the explanation of a run of this program in which this was found.
+/// Returns the explanation of a run of this file in which this was found.
 fn explanation_in(
     alloc: Global,
     rerun: Rerun<'_>,
-    program: &Program,
+    compiled: &CompiledFile,
     run: &Evidence,
     is_short: bool,
 ) -> Result<Explanation, Fault> {
@@ -129,13 +129,13 @@ fn explanation_in(
     let explainer = Explainer {
         alloc,
         listing: &listing,
-        code: &program.code,
+        code: &compiled.code,
         run,
         library: rerun.library,
         is_short,
     };
     explainer.explain(&mut remarks)?;
-    let definitions = Definitions::of_checked(rerun.definitions, rerun.library, &program.checked);
+    let definitions = Definitions::of_checked(rerun.definitions, rerun.library, &compiled.checked);
     add_warnings(alloc, &definitions, &mut remarks)?;
     Ok(Explanation::new(remarks))
 }

@@ -8,6 +8,7 @@ mod call_rows;
 mod callers;
 mod causes;
 mod checking;
+mod compiled;
 mod counted;
 mod counters;
 mod definition_counts;
@@ -49,6 +50,7 @@ pub use laws::{joined_form_law, one_line_law};
 pub use pipeline::{
     transform, transform_joined, transform_joined_with_notes, transform_with_notes,
 };
+pub use program::Program;
 pub use progress::FileProgress;
 pub use sink::{Sink, write_all};
 pub use source::{Source, read_all};

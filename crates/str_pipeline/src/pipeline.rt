@@ -15,11 +15,12 @@ ghost use Rattle.str_pipeline.specs.Steps.{DecidesResult, IsStop, IsResult, IsTe
 ghost use Rattle.str_pipeline.specs.Transformation.{Ends, OfTwo, ReadsTwo, Transforms};
 ghost use Rattle.str_pipeline.specs.Faults.{HoldsRefusal, IsRefusal, IsTransferFault, IsOfDefinitions, RefusesDefinitions, is_read, is_read_fault, is_write_fault};
 
-use crate::answer::{MAX_DEFINITIONS, MAX_TERM, outcome_of, write_outcome, write_refusal};
+use crate::answer::{MAX_DEFINITIONS, MAX_TERM, write_outcome, write_refusal};
+use crate::compiled::compile_to_run;
 use crate::empty_text::EmptyText;
 use crate::explaining::explain_run;
 use crate::joined::{JoinedDefinitions, read_definitions};
-use crate::program::program_to_run;
+use crate::program::outcome_of;
 use crate::progress::library_bytes;
 use crate::sink::Sink;
 use crate::source::{Source, read_all};
@@ -30,7 +31,6 @@ use keyed_hash::HashKeys;
 use prim_registry::{PrimMeaning, Registry};
 use std::alloc::Global;
 use term_model::Fault;
-use term_store::StoreSpace;
 
 /// Returns what the definitions do with the term, which is read into a store of its own, in which equal terms are one, and rewritten
 /// there. The outcome has the text of the result. The fault is the first refusal, or `Memory` or `Read`.
@@ -65,20 +65,12 @@ fn outcome_apart<D: Source, T: Source, M: PrimMeaning>(
         return Err(Fault::DefsTooLong);
     };
     notes.note_library(library_bytes(defs.files()));
-    let program = program_to_run(alloc, keys, &text, options, registry, notes)?;
+    let program = compile_to_run(alloc, keys, &text, options, registry, notes)?;
     notes.keep_definitions(text);
     let Some(text) = read_all(alloc, term, MAX_TERM)? else {
         return Err(Fault::TermTooLong);
     };
-    outcome_of(
-        alloc,
-        StoreSpace::new(alloc, keys),
-        program,
-        text,
-        options,
-        registry,
-        notes,
-    )
+    outcome_of(alloc, keys, program, text, options, registry, notes)
 }
 
 /// Does the same over one reader of the joined form, after the text of libraries from another one.
@@ -154,27 +146,19 @@ fn outcome_after<S: Source, M: PrimMeaning>(
         front,
     } = found;
     notes.note_library(library);
-    let program = program_to_run(alloc, keys, &text, options, registry, notes)?;
+    let program = compile_to_run(alloc, keys, &text, options, registry, notes)?;
     front.note_end(notes);
     let Some(term) = front.read_term(alloc, input, MAX_TERM)? else {
         return Err(Fault::TermTooLong);
     };
     notes.keep_definitions(text);
-    outcome_of(
-        alloc,
-        StoreSpace::new(alloc, keys),
-        program,
-        term,
-        options,
-        registry,
-        notes,
-    )
+    outcome_of(alloc, keys, program, term, options, registry, notes)
 }
 
 /// Writes the line of the outcome, or of the refusal that came in place of it, and returns its
 /// status. A fault of reading or of memory is returned as it is.
 #[tactic(auto, using(crate::proofs::WrittenLaws::outcome_has_written, crate::proofs::WrittenLaws::outcome_has_begun))]
-fn finish<W: Sink>(
+pub(crate) fn finish<W: Sink>(
     alloc: Global,
     outcome: Result<Outcome<Vec<u8>>, Fault>,
     out: &mut W,

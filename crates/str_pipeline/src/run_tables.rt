@@ -6,11 +6,11 @@ ghost use Rattle.prim_registry.specs.RegistryNames.{Covers};
 
 use crate::alternative_table::AlternativeTable;
 use crate::call_rows::CallRows;
+use crate::compiled::{CompiledFile, Purpose, compile_file};
 use crate::counters::Counters;
 use crate::definition_counts::{count_definitions, library_names};
 use crate::explaining::MOST_RULES;
 use crate::profile_table::add_profile;
-use crate::program::{Program, Purpose, make_program};
 use crate::rerun::{Rerun, account_of, trace_of};
 use crate::run_record::{RunRecord, push_text};
 use crate::status::Options;
@@ -21,10 +21,10 @@ use str_desugar::alternative_heads;
 use strat_machine::{Account, Ending};
 use term_model::Fault;
 
-/// A run whose instructions were counted: of which program, where the names of its alternatives stand, and what its instructions did.
+/// A run whose instructions were counted: of which file, where the names of its alternatives stand, and what its instructions did.
 #[derive(Clone, Copy)]
 struct CountedRun<'a> {
-    program: &'a Program,
+    compiled: &'a CompiledFile,
     heads: &'a [Vec<u64>],
     account: &'a Account,
     /// Whether it was followed for fewer rules than it may use, and they did not suffice.
@@ -42,7 +42,7 @@ pub(crate) fn tables_of<M: PrimMeaning>(
     requires budget { rerun.budget ≤ max_budget }
     requires honest { IsHonest M.answer registry.now }
 {
-    let program = make_program(
+    let compiled = compile_file(
         alloc,
         rerun.keys,
         rerun.definitions,
@@ -50,10 +50,10 @@ pub(crate) fn tables_of<M: PrimMeaning>(
         registry,
         Purpose::Counts,
     )?;
-    let account = account_of(alloc, &program.code, rerun, registry)?;
-    let heads = alternative_heads(alloc, rerun.keys, &program.checked)?;
+    let account = account_of(alloc, &compiled.code, rerun, registry)?;
+    let heads = alternative_heads(alloc, rerun.keys, &compiled.checked)?;
     let run = CountedRun {
-        program: &program,
+        compiled: &compiled,
         heads: &heads,
         account: &account,
         is_short: account.ending == Ending::Spent && options.budget > MOST_RULES,
@@ -71,14 +71,14 @@ fn rows_of<M: PrimMeaning>(
 ) -> Result<Vec<Row>, Fault>
     requires budget { rerun.budget ≤ max_budget }
     requires honest { IsHonest M.answer registry.now }
-    requires covers { Covers registry.now run.program.now.code.prims }
+    requires covers { Covers registry.now run.compiled.now.code.prims }
 {
     let counters = Counters {
-        code: &run.program.code,
+        code: &run.compiled.code,
         account: run.account,
     };
     let listing = Listing::new(alloc, rerun.definitions)?;
-    let names = library_names(alloc, run.program.checked.file())?;
+    let names = library_names(alloc, run.compiled.checked.file())?;
     let definitions = count_definitions(alloc, counters, run.heads, &listing, names.len())?;
     let record = RunRecord {
         alloc,

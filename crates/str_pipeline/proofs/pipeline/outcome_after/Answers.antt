@@ -6,7 +6,7 @@ use Rattle.str_pipeline.specs.Judged.{PassesChecks}
 use Rattle.str_pipeline.specs.Limits.{max_definitions, max_term}
 use Rattle.str_pipeline.specs.Setting.{Setting, setting_of}
 use Rattle.str_pipeline.specs.Written.{IsFirstFault}
-use Rattle.str_pipeline.specs.Steps.{IsProgram, IsTextResult}
+use Rattle.str_pipeline.specs.Steps.{IsCompiled, IsTextResult}
 use Rattle.str_pipeline.proofs.FaultLaws.{reading_apart}
 use Rattle.str_pipeline.proofs.OneLine.{not_both}
 use Rattle.str_pipeline.proofs.WrittenLaws.{for_each_told, told_then, program_fault, reading_result, passed}
@@ -23,7 +23,7 @@ returns-in_err-program-clause-result g c =
     (λ left. rw (passed c.from_residual.result c.in_err-program.field-0.0
     c.from_residual.ensures.1)
     (program_fault c.args.found.text.items (term_of c.args.found.front left) S c.in_err-program.field-0.0 short
-    (subst (λ (bytes : List ℕ). IsProgram S bytes (Err c.in_err-program.field-0.0))
+    (subst (λ (bytes : List ℕ). IsCompiled S bytes (Err c.in_err-program.field-0.0))
     c.deref.ensures.value c.in_err-program.ensures.program)))
 
 pub returns-in_default-clause-result : goal.returns-in_default-clause-result

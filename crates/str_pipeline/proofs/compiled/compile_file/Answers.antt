@@ -5,9 +5,9 @@ use Rattle.core_lang.specs.Core.{program_of}
 use Rattle.prim_registry.specs.Entries.{entries_of}
 use Rattle.str_syntax.specs.Views.{file_of}
 use Rattle.str_pipeline.specs.Setting.{setting_with}
-use Rattle.str_pipeline.proofs.KnownLaws.{covered, known, program_alike}
+use Rattle.str_pipeline.proofs.KnownLaws.{covered, known, compiled_alike}
 use Rattle.str_pipeline.proofs.ProgramLaws.{no_tokens, no_file, not_passed, passed_file, same_program}
-use Rattle.str_pipeline.proofs.program.make_program.Goals as goal
+use Rattle.str_pipeline.proofs.compiled.compile_file.Goals as goal
 
 pub returns-in_err-tokens-clause-program : goal.returns-in_err-tokens-clause-program
 returns-in_err-tokens-clause-program g c =
@@ -26,7 +26,7 @@ returns-in_err-checked-clause-program g c =
     let M = g.M.PrimMeaning.answer in
     let p = err_from_is_err_and c.from_residual-in_err-checked.result c.from_residual-in_err-checked.ensures.1 in
     rw (p.1, p.2)
-    (program_alike c.in_ok-primitives.primitives (entries_of c.args.registry.now) c.in_ok-primitives.ensures
+    (compiled_alike c.in_ok-primitives.primitives (entries_of c.args.registry.now) c.in_ok-primitives.ensures
     M c.args.options.now c.args.definitions.now (Err c.in_err-checked.field-0.0)
     (not_passed (setting_with M c.in_ok-primitives.primitives c.args.options.now)
     c.args.definitions.now c.in_ok-tokens.tokens c.in_ok-file.file c.in_ok-file-2.file
@@ -44,7 +44,7 @@ returns-clause-program g c =
     let resolved = same_program c.in_ok-checked.checked.file c.in_ok-file-2.file c.in_ok-checked.checked.main
     c.args.options.now.main.items c.in_ok-core.core
     c.in_ok-checked.ensures.file (rw c.deref-2.ensures.value at c.in_ok-checked.ensures.main) c.in_ok-core.ensures in
-    program_alike c.in_ok-primitives.primitives (entries_of c.args.registry.now) c.in_ok-primitives.ensures
+    compiled_alike c.in_ok-primitives.primitives (entries_of c.args.registry.now) c.in_ok-primitives.ensures
     M c.args.options.now c.args.definitions.now
     (Ok (record { checked = c.in_ok-checked.checked; code = c.in_ok-code.code })) (
       file_of c.in_ok-file-2.file,
