@@ -1,5 +1,5 @@
 -- What is loaded stays loaded from term to term, and a program is that of its file whatever strict mode and budget are.
-use Rattle.std.proofs.Common.{◌≡◌, None, List, sym, subst}
+use Rattle.std.proofs.Common.{◌≡◌, ℕ, None, List, sym, subst}
 use Rattle.term_model.specs.PrimNames.{NameKey}
 use Rattle.term_model.specs.Space.{Space, KeepsNames}
 use Rattle.core_lang.specs.Named.{written}
@@ -26,7 +26,7 @@ loaded_later {W} {R} {M} {N} {S} {w1 = w1} {keys} l l1 code names same h =
     (loaded_known l code names h)
 
 -- the setting with other options
-with_options : Setting → Options → Setting
+abbrev pub with_options : Setting → Options → Setting
 with_options S o = record { options = o; has_primitive = S.has_primitive; meaning = S.meaning }
 
 module _ (S : Setting) (o : Options) (same : S.options.main.items ≡ o.main.items) (f : FileTree) where
