@@ -46,6 +46,7 @@ impl Holds for StoreSpace {
 /// Returns what the code, which is loaded in the space, does with the term of the reference within a budget of rules, with the
 /// canonical text of the result in place of the result, and notes what the run used. The run takes place in the space, which no term
 /// leaves. The only fault is `Memory`.
+#[inline(never)]
 pub(crate) fn run_machine<S: Holds, M: PrimMeaning>(
     alloc: Global,
     space: &mut S,
