@@ -1,7 +1,8 @@
 //! One program for several terms. What is expected was worked out by hand.
-ghost use Rattle.std.specs.Prelude.{◌≡◌, ◌≤◌};
+ghost use Rattle.std.specs.Prelude.{◌≤◌, length};
 ghost use Rattle.prim_registry.specs.Entries.{IsHonest, entries_of};
 ghost use Rattle.prim_registry.specs.RegistryNames.{Covers};
+ghost use Rattle.str_pipeline.specs.Limits.{max_term};
 ghost use Rattle.str_pipeline.specs.Steps.{IsReady};
 ghost use Rattle.term_model.specs.Limits.{max_budget};
 
@@ -10,7 +11,7 @@ use keyed_hash::HashKeys;
 use prim_registry::{PrimMeaning, Registry, Standard};
 use std::alloc::Global;
 use std::test::Fail;
-use str_pipeline::{Counted, MAX_BUDGET, MAX_TERM, Options, Program, RunNotes};
+use str_pipeline::{Counted, MAX_BUDGET, Options, Program, RunNotes};
 use term_model::Fault;
 
 /// A program with a table of constructors and a term that is kept.
@@ -31,6 +32,7 @@ fn line_of(
     registry: &Registry<Standard>,
     notes: &mut RunNotes,
 ) -> Result<Vec<u8>, Fault>
+    requires fits { length text.now ≤ max_term }
     requires budget { options.now.budget ≤ max_budget }
     requires honest { IsHonest ⟦<Standard as PrimMeaning>⟧.answer registry.now }
     requires covers { Covers registry.now program.old.code.prims }
@@ -39,12 +41,16 @@ fn line_of(
     ensures ready { IsReady (entries_of registry.now) program.new }
 {
     let mut out = Counted::new(Vec::new(alloc));
-    if text.len() > MAX_TERM {
-        program.refuse_long(alloc, notes, &mut out)?;
-    } else {
-        program.rewrite(alloc, text, options, registry, notes, &mut out)?;
-    }
+    program.rewrite(alloc, text, options, registry, notes, &mut out)?;
     Ok(out.into_inner())
+}
+
+/// Returns whether a text that is too long to be kept has its line.
+fn refuses_long(alloc: Global, program: &Program) -> Result<bool, Fault> {
+    let mut notes = RunNotes::none();
+    let mut out = Counted::new(Vec::new(alloc));
+    program.refuse_long(alloc, &mut notes, &mut out)?;
+    Ok(out.into_inner().as_slice() == b"#refused TermTooLong\n".as_slice())
 }
 
 /// Returns whether a term that is refused and one that fails have the lines of runs of their own.
@@ -116,6 +122,9 @@ fn one_program_for_several_terms(rt: HostRuntime) -> Result<(), Fail> {
     )?;
     if !gives_the_same(rt.alloc(), &mut program, &options, &registry)? {
         return Err(Fail::new("another line, or another use"));
+    }
+    if !refuses_long(rt.alloc(), &program)? {
+        return Err(Fail::new("another line of a long text"));
     }
     Ok(())
 }
